@@ -5,3 +5,4 @@ pub mod Name
 pub mod Shape
 pub mod CardFacts
 pub mod model
+pub mod Examples

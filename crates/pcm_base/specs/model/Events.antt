@@ -1,5 +1,5 @@
 -- What each event does to its own stream, as a program, its refusals in order (the ioctls of pcm_native.c; open and close, the mapped calls, the events of the card and the order of refusals are this project's own).
-use Rattle.std.specs.Prelude.{ℕ, ℤ, Bool, true, false, not, ◌&&◌, ◌||◌, nat_eq, nat_lt, nat_le, List, [], ◌∷◌, length, drop, set, min, ◌+◌, ◌-◌, ◌*◌, ◌/◌, if◌then◌else◌, ◌-ℤ◌, pos, Ok}
+use Rattle.std.specs.Prelude.{ℕ, Bool, true, false, not, ◌&&◌, ◌||◌, nat_eq, nat_lt, nat_le, List, [], ◌∷◌, length, drop, set, min, ◌+◌, ◌-◌, ◌*◌, ◌/◌, if◌then◌else◌, ◌-ℤ◌, pos}
 use Rattle.std.specs.declared.option.Option.{Option}
 use Rattle.std.specs.declared.option.Option.TheVariants.{Some, None}
 use Rattle.pcm_base.specs.declared.act.Act.TheVariants as act

@@ -15,4 +15,3 @@ on_by n s = record s { at = record s.at { appl = s.at.appl + n } }
 -- the application position that is shown as p
 abbrev pub sync_to : ℕ → Stream → Stream
 sync_to p s = record s { at = record s.at { appl = head s - (head s - p) % s.setup.boundary } }
-

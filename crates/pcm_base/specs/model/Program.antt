@@ -1,5 +1,5 @@
 -- What an event does to its own stream, as a program: it ends with an answer, or it makes an act over its group and goes on with the act's outcome and its own stream after it.
-use Rattle.std.specs.Prelude.{ℕ, List, [], Ok, Err}
+use Rattle.std.specs.Prelude.{ℕ, List, []}
 use Rattle.std.specs.declared.option.Option.{Option}
 use Rattle.std.specs.declared.option.Option.TheVariants.{Some, None}
 use Rattle.pcm_base.specs.declared.act.Act.{Act}

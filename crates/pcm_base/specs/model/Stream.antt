@@ -110,4 +110,3 @@ shown s p = p % s.setup.boundary
 -- the frame of zero bytes
 abbrev pub zero_frame : Stream → Frame
 zero_frame s = replicate s.setup.frame_bytes 0
-

@@ -81,4 +81,3 @@ update s =
     let t = moved_up s in
     if s.card.runs then record { found = found t; stream = settled (found t) t }
     else record { found = updated.Nothing; stream = s }
-

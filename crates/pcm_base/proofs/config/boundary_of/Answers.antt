@@ -1,5 +1,4 @@
-use Rattle.std.proofs.Common.{◌≡◌, ◌≤◌, ◌<◌, ◌+◌, ◌*◌, ◌-◌, refl, sym, subst, arith, ℕ}
-use Rattle.pcm_base.specs.Boundary.{boundary_of as the_boundary}
+use Rattle.std.proofs.Common.{refl, arith}
 use Rattle.pcm_base.proofs.BoundaryLemmas.{Doubling-start, Doubling-more, Doubling-done}
 use Rattle.pcm_base.proofs.config.boundary_of.Goals as goal
 
