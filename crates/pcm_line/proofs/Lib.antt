@@ -1,0 +1,12 @@
+pub mod Cutting
+pub mod Digits
+pub mod Numbers
+pub mod WordTables
+pub mod HexValues
+pub mod HexFront
+pub mod KindLaws
+pub mod KeywordLaws
+pub mod GrammarLaws
+pub mod Spellings
+pub mod SayableLaws
+pub mod HexTable

@@ -1,0 +1,10 @@
+pub mod Kinds
+pub mod Pieces
+pub mod Keywords
+pub mod Forms
+pub mod Grammar
+pub mod Sayable
+pub mod Tables
+pub mod Reading
+pub mod Hex
+pub mod Spelling
