@@ -1,0 +1,5 @@
+use Rattle.card_emul.proofs.any_card.AnyCardCard.take.Goals as goal
+
+pub advanced_by-self-inside-requires-clause-sound :
+    goal.advanced_by-self-inside-requires-clause-sound
+advanced_by-self-inside-requires-clause-sound c = c.self.invariant.shape _ c.unwrap-shape.ensures

@@ -1,0 +1,48 @@
+// Who is woken.
+ghost use Rattle.std.specs.Prelude.{◌≡◌, map, All, ◌<◌};
+ghost use Rattle.pcm_base.specs.model.Sleep.{mask_of, waits_in};
+ghost use Rattle.sleepers.specs.Wake.{after_check, clients_of, may_wait_on, wakes as is_to_wake, woken_sleepers};
+
+use crate::place::Place;
+use pcm_base::{Sleeper, State, Task};
+
+// A transfer may wait in these states.
+fn is_waiting_state(state: State) -> bool
+    ensures { result ≡ waits_in state }
+{
+    matches!(state, State::Prepared | State::Running | State::Paused)
+}
+
+// Whether the task may wait, where so many frames are available.
+fn may_wait(task: Task, state: State, avail: u64, group_drains: bool) -> bool
+    ensures { result ≡ may_wait_on state avail group_drains task }
+{
+    match task {
+        Task::Transfer(_, wanted) => is_waiting_state(state) && avail < wanted,
+        Task::Drain => group_drains,
+    }
+}
+
+// Whether it is asleep and may no longer wait.
+fn wakes(sleeper: Sleeper, state: State, avail: u64, group_drains: bool) -> bool
+    ensures { result ≡ is_to_wake state avail group_drains sleeper }
+{
+    sleeper.asleep && !may_wait(sleeper.task, state, avail, group_drains)
+}
+
+/// Marks awake each sleeper that may no longer wait, and gives the mask of their clients.
+pub(crate) fn wake_each(places: &mut [Place], state: State, avail: u64, group_drains: bool) -> u16
+    requires { All (λ x. x.client.0 < 16) places.old }
+    ensures after { places.new ≡ after_check state avail group_drains places.old }
+    ensures woken { result ≡ mask_of (clients_of (woken_sleepers state avail group_drains places.old)) }
+{
+    let mut woken = 0;
+    for place in places.iter_mut() {
+        let client = place.sleeper.client.0;
+        if wakes(place.sleeper, state, avail, group_drains) {
+            place.sleeper.asleep = false;
+            woken |= 1 << client;
+        }
+    }
+    woken
+}
