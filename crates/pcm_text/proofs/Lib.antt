@@ -1,0 +1,3 @@
+pub mod FrontLemmas
+pub mod WokenLemmas
+pub mod NameLemmas
