@@ -1,0 +1,5 @@
+pub mod Boxes
+pub mod Checks
+pub mod MaskLaws
+pub mod Ranges
+pub mod Unique
