@@ -1,0 +1,5 @@
+pub mod Search
+pub mod Pieces
+pub mod Formats
+pub mod Files
+pub mod Written

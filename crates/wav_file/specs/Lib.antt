@@ -1,0 +1,4 @@
+pub mod Recordings
+pub mod Chunks
+pub mod Grammar
+pub mod Faults
