@@ -1,0 +1,4 @@
+pub mod Memory
+pub mod Shelf
+pub mod MemFiles
+pub mod Folder
