@@ -39,9 +39,12 @@ use Rattle.pcm_base.specs.model.Stream.{Setup, Waiting, Stream, no_setup, idle_c
 use Rattle.pcm_base.specs.model.Transfer.{frames_or, sleeping, write_on, read_on, is_whole, frames_in, frames_by, write, read}
 use Rattle.pcm_base.specs.model.Words.{when, ◌then◌, is_playback, is_closed, is_open, is_running, is_paused, is_suspended}
 
--- what a client sees
+-- what a client sees; zeros where there is no configuration
 abbrev pub page : Stream → Page
-page s = record { state = s.state; hw = shown s s.at.hw; appl = shown s s.at.appl; avail = avail s }
+page s = elim s.setup.config [
+  | None ↦ record { state = s.state; hw = 0; appl = 0; avail = 0 }
+  | Some c ↦ record { state = s.state; hw = shown s s.at.hw; appl = shown s s.at.appl; avail = avail s }
+]
 
 -- a stream with this set-up, in this state, all positions at p, its card standing and its lists empty
 abbrev pub set_setup : Setup → State → ℕ → Stream → Stream
