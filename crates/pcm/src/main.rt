@@ -1,0 +1,36 @@
+// Runs the command of the words over standard input and output, and tells on standard error why it ended if not well.
+#![tactic(auto)]
+
+use pcm_io::{StdSink, StdSource};
+use pcm_text::{Status, fault_text};
+use pcm_top::pcm_main;
+use std::env;
+use std::io;
+use std::process::ExitCode;
+use std::rt::Env;
+
+fn status_of_run(rt: &(impl Env + Input + Print + AllocGlobal)) -> Status {
+    let Ok(all) = env::args(rt) else {
+        return Status::Usage;
+    };
+    let mut words = Vec::new(rt.alloc());
+    for word in all.skip(1) {
+        if words.push(word).is_err() {
+            return Status::Memory;
+        }
+    }
+    let mut source = StdSource::new(rt.reader());
+    let mut out = StdSink::new(io::writer(rt));
+    pcm_main(rt.alloc(), &words, &mut source, &mut out)
+}
+
+fn main(rt: HostRuntime) -> ExitCode {
+    let status = status_of_run(&rt);
+    let number = status.number();
+    if number != 0 {
+        if let Ok(text) = fault_text(rt.alloc(), &status) {
+            let _ = eprintln!(rt; "pcm: {text}");
+        }
+    }
+    ExitCode::from(number)
+}

@@ -1,0 +1,6 @@
+pub mod RunsLemmas
+pub mod SlotLemmas
+pub mod StreamLemmas
+pub mod MoveLemmas
+pub mod ActsLemmas
+pub mod CardLemmas

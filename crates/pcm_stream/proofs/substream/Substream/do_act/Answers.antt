@@ -1,0 +1,33 @@
+use Rattle.std.proofs.Common.{◌≡◌, refl, sym, ◌∙◌}
+use Rattle.std.specs.declared.option.Option.TheVariants.{Some, None}
+use Rattle.std.proofs.lemmas.Result.{on_err_weaker, on_ok_weaker}
+use Rattle.pcm_stream.specs.Triggers.{trigger_for}
+use Rattle.pcm_stream.proofs.ActsLemmas.{did, did_not, did_nothing, told-trips, unasked-trips}
+use Rattle.pcm_stream.proofs.substream.Substream.do_act.Goals as goal
+
+pub returns-in-Some-clause-done : goal.returns-in-Some-clause-done
+returns-in-Some-clause-done g c s h =
+    let e : trigger_for c.args.act s ≡ Some c.in-Some.trigger = sym (c.trigger_for.ensures s h.shows h.sound) ∙ c.in-Some.is in
+    on_ok_weaker c.trigger.result
+    (did c.args.act c.args.self.now _ s c.in-Some.trigger (record { dir = refl; long_max = refl; runtime = refl; state = refl; kept = refl }) e (c.requires.voted s h) h)
+    c.trigger.ensures.ok
+
+pub returns-in-Some-clause-failed : goal.returns-in-Some-clause-failed
+returns-in-Some-clause-failed g c s h =
+    let e : trigger_for c.args.act s ≡ Some c.in-Some.trigger = sym (c.trigger_for.ensures s h.shows h.sound) ∙ c.in-Some.is in
+    on_err_weaker c.trigger.result
+    (did_not c.args.act c.args.self.now _ s c.in-Some.trigger (record { dir = refl; long_max = refl; runtime = refl; state = refl; kept = refl }) e h)
+    c.trigger.ensures.err
+
+pub returns-in-Some-clause-trips : goal.returns-in-Some-clause-trips
+returns-in-Some-clause-trips g c s h =
+    let e : trigger_for c.args.act s ≡ Some c.in-Some.trigger = sym (c.trigger_for.ensures s h.shows h.sound) ∙ c.in-Some.is in
+    told-trips c.args.act c.args.self.now s c.in-Some.trigger _ e h c.trigger.ensures.plan
+
+pub returns-in-None-clause-done : goal.returns-in-None-clause-done
+returns-in-None-clause-done g c s h =
+    let e : trigger_for c.args.act s ≡ None = sym (c.trigger_for.ensures s h.shows h.sound) ∙ c.in-None.is in
+    did_nothing c.args.act c.args.self.now s e (c.requires.voted s h) h
+
+pub returns-in-None-clause-trips : goal.returns-in-None-clause-trips
+returns-in-None-clause-trips g c s h some = unasked-trips c.args.act s (sym (c.trigger_for.ensures s h.shows h.sound) ∙ c.in-None.is)

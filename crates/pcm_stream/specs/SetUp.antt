@@ -1,0 +1,22 @@
+-- What hw_params answers and sets up.
+use Rattle.std.specs.Prelude.{Bool, nat_lt}
+use Rattle.std.specs.declared.option.Option.{Option}
+use Rattle.pcm_base.specs.declared.call.CallKind.TheVariants as kind
+use Rattle.pcm_base.specs.declared.config.Config.{Config}
+use Rattle.pcm_base.specs.declared.state.Errno.{Errno}
+use Rattle.pcm_base.specs.declared.state.Errno.TheVariants as errno
+use Rattle.pcm_base.specs.declared.state.State.TheVariants as state
+use Rattle.pcm_base.specs.Boundary.{boundary_of}
+use Rattle.pcm_base.specs.model.Words.{when, ◌then◌}
+use Rattle.pcm_base.specs.model.Allowed.{buffer_of}
+use Rattle.pcm_base.specs.model.Stream.{Stream}
+use Rattle.pcm_base.specs.model.Acts.{table}
+use Rattle.pcm_base.specs.model.Events.{set_setup, setup_of}
+
+-- the refusal that comes before the configuration is looked at, where the test says whether a call is in progress
+abbrev pub hw_refusal : Bool → Stream → Option Errno
+hw_refusal busy s = table kind.HwParams s then (when (nat_lt 0 s.mappings) errno.Ebadfd then when busy errno.Ebusy)
+
+-- the stream with an accepted configuration
+abbrev pub configured_by : Config → Stream → Stream
+configured_by c s = set_setup (setup_of c s.long_max) state.Setup (boundary_of (buffer_of c) s.long_max) s

@@ -1,0 +1,175 @@
+// Where the card stands, and what moves between clients, the buffer and the card.
+ghost use Rattle.std.specs.Prelude.{◌≡◌, ◌≤◌, ◌<◌, ◌+◌, ◌*◌, ◌/◌, ◌^◌, ◌≢◌, true, None, Some, IsSome, IsErrOf, IfOk, OnOk, length};
+ghost use Rattle.std.specs.Option.{ForSome};
+ghost use Rattle.pcm_base.specs.declared.act.Updated.TheVariants.{DrainDone};
+ghost use Rattle.pcm_base.specs.declared.state.Dir.TheVariants.{Playback, Capture};
+ghost use Rattle.pcm_base.specs.model.Stream.{Stream, avail};
+ghost use Rattle.pcm_base.specs.model.Update.{update as update_of, moved_up, found as found_of, found_in as what_is_found, settled};
+ghost use Rattle.pcm_base.specs.model.Movement.{move};
+ghost use Rattle.pcm_base.specs.model.Transfer.{frames_in, put_next};
+ghost use Rattle.pcm_base.specs.Shape.{AreFrames};
+
+use super::{DmaRefusal, Substream};
+use pcm_base::{Card, Dir, State, Trigger, Updated};
+
+/// The most bytes that a playback card holds.
+pub const TAKEN_LIMIT: u64 = 67_108_864;
+
+// What the count of frames that a client may move means in a state.
+fn found_in(state: State, buffer: u64, stop_threshold: u64, avail: u64) -> Updated
+    ensures { result ≡ what_is_found state buffer stop_threshold avail }
+{
+    match state {
+        State::Draining if avail >= buffer => Updated::DrainDone,
+        State::Running if avail >= stop_threshold => Updated::StopXrun,
+        _ => Updated::Nothing,
+    }
+}
+
+impl<C: Card> Substream<C> {
+    ghost use Rattle.pcm_stream.specs.StandsFor.{StandsFor, faults_of, shape_in, dma_reply};
+    ghost use Rattle.pcm_stream.specs.Moving.{CanMove};
+
+    /// Reports where the card stands, puts silence ahead of a playback client, and looks whether that ends a drain, which
+    /// it does here, or has to stop the group, which is left to the caller (`snd_pcm_update_hw_ptr`).
+    pub fn update(&mut self) -> Updated
+        ensures found { (s : Stream) → StandsFor self.old s → result ≡ (update_of s).found }
+        ensures model { (s : Stream) → StandsFor self.old s → StandsFor self.new (update_of s).stream }
+        ensures faults { faults_of self.new ≡ faults_of self.old }
+    {
+        if !self.card.runs() {
+            return Updated::Nothing;
+        }
+        self.report();
+        let found = self.found();
+        match found {
+            Updated::DrainDone => self.end_drain(),
+            Updated::Nothing => {}
+            Updated::StopXrun => {}
+        }
+        found
+    }
+
+    // The hardware pointer moves to where the running card stands.
+    fn report(&mut self)
+        ensures model { (s : Stream) → StandsFor self.old s → s.card.runs ≡ true → StandsFor self.new (moved_up s) }
+        ensures faults { faults_of self.new ≡ faults_of self.old }
+    {
+        let Some(runtime) = &mut self.runtime else {
+            return;
+        };
+        runtime.report(self.card.position());
+        match self.dir {
+            Dir::Playback => runtime.fill(),
+            Dir::Capture => {}
+        }
+    }
+
+    // What the pointers mean in this state.
+    fn found(&self) -> Updated
+        ensures { (s : Stream) → StandsFor self.now s → result ≡ found_of s }
+    {
+        match &self.runtime {
+            None => Updated::Nothing,
+            Some(runtime) => found_in(
+                self.state,
+                runtime.shape.buffer,
+                runtime.sw.stop_threshold,
+                runtime.avail(self.dir),
+            ),
+        }
+    }
+
+    // All that was written is played.
+    fn end_drain(&mut self)
+        ensures model { (s : Stream) → StandsFor self.old s → found_of s ≡ DrainDone → StandsFor self.new (settled DrainDone s) }
+        ensures faults { faults_of self.new ≡ faults_of self.old }
+    {
+        self.state = State::Setup;
+        let _ = self.card.trigger(Trigger::Stop);
+    }
+
+    /// Puts whole interleaved frames at the application position, which moves on by them. On playback; at most as many as
+    /// are available and as the buffer holds (`__snd_pcm_lib_xfer`).
+    pub fn put_interleaved(&mut self, frames: &[u8])
+        requires shape { IsSome (shape_in self.old) }
+        requires whole { ForSome (shape_in self.old) (λ s. AreFrames s frames.now) }
+        requires count { ForSome (shape_in self.old) (λ s. length frames.now ≤ s.buffer * s.frame_bytes) }
+        ensures put { (s : Stream) → StandsFor self.old s → length (frames_in s frames.now) ≤ avail s → StandsFor self.new (put_next (frames_in s frames.now) s) }
+        ensures faults { faults_of self.new ≡ faults_of self.old }
+        ensures shape { shape_in self.new ≡ shape_in self.old }
+    {
+        if let Some(runtime) = &mut self.runtime {
+            runtime.put(frames);
+        }
+    }
+
+    /// Moves `n` frames between the buffer and the card, and answers how many: a playback card takes those that stand from
+    /// its position on, a capture card gives its next ones there, zero bytes past their end. `Idle` where the card does not
+    /// run; `Late` where the movement would come to a whole buffer before it is reported; `Limit` where a playback card
+    /// would hold more than 67,108,864 bytes. After a refusal, Memory too, all is as before. This project's own.
+    pub fn dma(&mut self, n: u64) -> Result<u64, DmaRefusal>
+        ensures reply { (s : Stream) → StandsFor self.old s → ForSome (dma_reply result) (λ reply. reply ≡ (move n s).reply) }
+        ensures moved { (s : Stream) → StandsFor self.old s → result ≢ Err DmaRefusal.Memory → StandsFor self.new (move n s).stream }
+        ensures memory { (s : Stream) → StandsFor self.old s → result ≡ Err DmaRefusal.Memory → StandsFor self.new s }
+        ensures faults { faults_of self.new ≡ faults_of self.old }
+    {
+        if !self.card.runs() {
+            return Err(DmaRefusal::Idle);
+        }
+        let Some(runtime) = &self.runtime else {
+            return Err(DmaRefusal::Idle);
+        };
+        let room = runtime.shape.buffer - 1 - runtime.unreported(self.card.position());
+        if n > room {
+            return Err(DmaRefusal::Late(room));
+        }
+        match self.dir {
+            Dir::Playback => self.play(n),
+            Dir::Capture => {
+                self.capture(n);
+                Ok(n)
+            }
+        }
+    }
+
+    // The running card of a playback substream takes frames.
+    fn play(&mut self, n: u64) -> Result<u64, DmaRefusal>
+        requires { ForSome self.old.runtime (λ r. n < r.shape.buffer) }
+        ensures reply { (s : Stream) → StandsFor self.old s → CanMove Playback n s → ForSome (dma_reply result) (λ reply. reply ≡ (move n s).reply) }
+        ensures moved { (s : Stream) → StandsFor self.old s → CanMove Playback n s → result ≢ Err DmaRefusal.Memory → StandsFor self.new (move n s).stream }
+        ensures memory { (s : Stream) → StandsFor self.old s → result ≡ Err DmaRefusal.Memory → StandsFor self.new s }
+        ensures faults { faults_of self.new ≡ faults_of self.old }
+    {
+        let Some(runtime) = &mut self.runtime else {
+            return Err(DmaRefusal::Idle);
+        };
+        let bytes = n * runtime.shape.frame_bytes;
+        let total = self.card.taken().len() as u64 + bytes;
+        if total > TAKEN_LIMIT {
+            return Err(DmaRefusal::Limit(total));
+        }
+        let Ok(()) = self.card.reserve(bytes) else {
+            return Err(DmaRefusal::Memory);
+        };
+        runtime.read(self.card.position(), n);
+        self.card.take(&runtime.piece[..bytes as usize]);
+        runtime.count(n);
+        Ok(n)
+    }
+
+    // The running card of a capture substream gives frames.
+    fn capture(&mut self, n: u64)
+        requires { ForSome self.old.runtime (λ r. n < r.shape.buffer) }
+        ensures moved { (s : Stream) → StandsFor self.old s → CanMove Capture n s → StandsFor self.new (move n s).stream }
+        ensures faults { faults_of self.new ≡ faults_of self.old }
+    {
+        let Some(runtime) = &mut self.runtime else {
+            return;
+        };
+        let position = self.card.position();
+        runtime.receive(&mut self.card, n);
+        runtime.write(position, n);
+        runtime.count(n);
+    }
+}

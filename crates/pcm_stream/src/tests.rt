@@ -1,0 +1,66 @@
+// Worked examples over the emulated card.
+ghost use Rattle.std.specs.Prelude.{◌≡◌, true};
+ghost use Rattle.pcm_base.specs.model.Sound.{is_stop};
+
+use super::*;
+use card_emul::AnyCard;
+use pcm_base::{Access, Act, Card, Config, Dir, Errno, Format, Model, State, Updated};
+
+// Two periods of two one-byte frames.
+const SMALL: Config = Config {
+    access: Access::RwInterleaved,
+    format: Format::U8,
+    channels: 1,
+    rate: 8000,
+    period: 2,
+    periods: 2,
+};
+
+fn make(stream: &mut Substream<AnyCard>, act: Act) -> Result<(), Errno>
+    requires { is_stop act ≡ true }
+{
+    stream.vote(act)?;
+    match stream.do_act(act) {
+        Ok(()) => {
+            stream.post_act(act);
+            Ok(())
+        }
+        Err(_) => {
+            stream.undo_act(act);
+            Err(Errno::Eio)
+        }
+    }
+}
+
+fn put(stream: &mut Substream<AnyCard>, frames: &[u8]) {
+    let Some(shape) = stream.shape() else {
+        return;
+    };
+    let fits = frames.len() as u64 <= shape.buffer * shape.frame_bytes;
+    if fits && frames.len() as u64 % shape.frame_bytes == 0 {
+        stream.put_interleaved(frames);
+    }
+}
+
+#[test]
+fn a_card_takes_what_was_put_and_finds_an_underrun(rt: HostRuntime) {
+    let card = AnyCard::new(rt.alloc(), Model::Basic, Dir::Playback);
+    let mut stream = Substream::new(rt.alloc(), card, Dir::Playback, 2_147_483_647);
+    assert_eq!(rt; stream.hw_params(&SMALL, false), Err(HwRefusal::Errno(Errno::Enxio)));
+    assert_eq!(rt; stream.open_sub(), Ok(()));
+    assert_eq!(rt; stream.open_sub(), Err(Errno::Ebusy));
+    assert_eq!(rt; stream.hw_params(&SMALL, false), Ok(()));
+    assert_eq!(rt; make(&mut stream, Act::Start), Err(Errno::Ebadfd));
+    assert_eq!(rt; make(&mut stream, Act::Prepare { stop_first: false }), Ok(()));
+    assert_eq!(rt; make(&mut stream, Act::Start), Err(Errno::Epipe));
+    put(&mut stream, &[1, 2, 3]);
+    assert_eq!(rt; stream.dma(1), Err(DmaRefusal::Idle));
+    assert_eq!(rt; make(&mut stream, Act::Start), Ok(()));
+    assert_eq!(rt; stream.dma(3), Ok(3));
+    assert_eq!(rt; stream.card().taken(), [1, 2, 3].as_slice());
+    assert_eq!(rt; stream.dma(1), Err(DmaRefusal::Late(0)));
+    assert_eq!(rt; stream.moved_total(), 3);
+    assert_eq!(rt; stream.update(), Updated::StopXrun);
+    assert_eq!(rt; make(&mut stream, Act::Stop(State::Xrun)), Ok(()));
+    assert_eq!(rt; stream.state(), State::Xrun);
+}

@@ -1,0 +1,12 @@
+// How a script ends.
+use pcm_line::LineError;
+
+/// How the lines of a script end: all were executed, one is none of the command (by its number from 1), or there are too
+/// many lines or bytes.
+#[derive(Clone, Copy, Debug, PartialEq, Eq)]
+pub enum End {
+    Whole,
+    BadLine(u64, LineError),
+    ScriptLines,
+    ScriptBytes,
+}
