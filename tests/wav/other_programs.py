@@ -1,77 +1,75 @@
 #!/usr/bin/env python3
-"""WAV files that other programs write, played by ours. Run by hand: it is no part of the gate.
+"""WAV files between other programs and ours, both ways. Run by hand: it is no part of the gate.
 
-    python3 tests/wav/other_programs.py [PCM]
+    python3 tests/wav/other_programs.py
 
-PCM is the built program `pcm`; without it, crates/pcm/out/pcm is taken, or the `pcm` on the path that PCM in the
-environment names. The files are written by Python's module `wave` and by `sox`, in U8, S16_LE, S24_3LE and S32_LE,
-with one to eight channels. For each file `pcm play IN OUT PERIOD PERIODS` is to store the frames that the file has,
-and behind them silence up to a whole period; the stored file is read back by `wave`. A file of the extensible kind
-(tag 65534) is to be refused with status 7. What is missing is skipped, and said so.
+Python's module `wave` and `sox` write files in U8, S16_LE, S24_3LE and S32_LE, with one to eight channels. The program
+of rewrite/, built as those of bench/ are, reads each with `read_wav` and tells what it found, and writes it anew with
+`write_wav`; `wave` and `sox` read that back. An extensible file (tag 65534) is to be refused. What is missing is
+skipped, and said so.
 
-The last line is `N passed, M failed, K skipped`; the exit status is 1 where something failed.
+The last line is `N passed, M failed, K skipped`, of files; the exit status is 1 where something failed.
 """
-import os
 import shutil
 import struct
 import subprocess
 import sys
 import tempfile
 import wave
+from pathlib import Path
 
-ROOT = os.path.dirname(os.path.dirname(os.path.dirname(os.path.abspath(__file__))))
-RATE = 8000
-FRAMES = 101  # no whole count of periods, and odd: one channel of U8 needs a pad
-PERIOD = 16
-PERIODS = 4
-# name: bytes of a sample, the byte of silence, sox's encoding
-FORMATS = {
-    "u8": (1, 0x80, "unsigned-integer"),
-    "s16_le": (2, 0x00, "signed-integer"),
-    "s24_3le": (3, 0x00, "signed-integer"),
-    "s32_le": (4, 0x00, "signed-integer"),
-}
+HERE = Path(__file__).resolve().parent
+TOP = HERE.parent.parent
+PROGRAM = "rewrite"
+USES = ["pcm_base", "wav_file"]
+
+RATE = 44100
+FRAMES = 101  # odd: a file of U8 with an odd count of channels has a pad
 EXTENSIBLE = 65534
-BAD_WAV = 7
+# name: bytes of a sample, sox's encoding
+FORMATS = {
+    "U8": (1, "unsigned-integer"),
+    "S16_LE": (2, "signed-integer"),
+    "S24_3LE": (3, "signed-integer"),
+    "S32_LE": (4, "signed-integer"),
+}
 
 
-def frames_of(width, channels):
+def frames_of(name, channels):
     """Bytes that differ from sample to sample and from byte to byte."""
-    return bytes((7 * i + i // 256) % 256 for i in range(FRAMES * channels * width))
+    return bytes((7 * i + i // 256) % 256 for i in range(FRAMES * channels * FORMATS[name][0]))
 
 
-def by_wave(path, width, channels, frames):
-    with wave.open(path, "wb") as out:
+def write_by_wave(path, name, channels):
+    with wave.open(str(path), "wb") as out:
         out.setnchannels(channels)
-        out.setsampwidth(width)
+        out.setsampwidth(FORMATS[name][0])
         out.setframerate(RATE)
-        out.writeframes(frames)
+        out.writeframes(frames_of(name, channels))
 
 
-def by_sox(kind):
-    """A writer by sox; `wavpcm` is always plain PCM, `wav` may be extensible."""
+def raw(name, channels):
+    """The words by which sox takes bare frames."""
+    width, encoding = FORMATS[name]
+    return ["-t", "raw", "-r", str(RATE), "-e", encoding, "-b", str(8 * width), "-c", str(channels), "-L"]
 
-    def write(path, width, channels, frames):
-        encoding = next(e for (w, _, e) in FORMATS.values() if w == width)
-        raw = ["-t", "raw", "-r", str(RATE), "-e", encoding, "-b", str(8 * width), "-c", str(channels), "-L"]
-        subprocess.run(["sox", "-D", *raw, "-", "-t", kind, path], input=frames, check=True)
+
+def writer_by_sox(kind):
+    """`wavpcm` is always plain PCM, `wav` may be extensible."""
+
+    def write(path, name, channels):
+        words = ["sox", "-D", *raw(name, channels), "-", "-t", kind, str(path)]
+        subprocess.run(words, input=frames_of(name, channels), check=True)
 
     return write
 
 
-def writers():
-    yield "wave", by_wave
-    if shutil.which("sox"):
-        yield "sox-pcm", by_sox("wavpcm")
-        yield "sox", by_sox("wav")
-    else:
-        print("skipped: no program sox, so no file is written by it")
+WRITERS = {"wave": write_by_wave, "sox-wavpcm": writer_by_sox("wavpcm"), "sox-wav": writer_by_sox("wav")}
 
 
 def format_tag(path):
     """The tag of the "fmt " chunk, found here without `wave`, which knows fewer files."""
-    with open(path, "rb") as file:
-        data = file.read()
+    data = path.read_bytes()
     at = 12
     while at + 8 <= len(data):
         size = struct.unpack_from("<I", data, at + 4)[0]
@@ -81,68 +79,100 @@ def format_tag(path):
     return None
 
 
-def prepare(folder):
-    """Writes each file, and gives its name, its format, its channels and its frames."""
-    files = []
-    for writer, write in writers():
-        for name, (width, _, _) in FORMATS.items():
-            for channels in range(1, 9):
-                frames = frames_of(width, channels)
-                file = f"{writer}-{name}-{channels}.wav"
-                write(os.path.join(folder, file), width, channels, frames)
-                files.append((file, name, channels, frames))
-    return files
+def needed(uses, names):
+    """These crates, and those of the repository below them."""
+    found = []
+    left = list(names)
+    while left:
+        name = left.pop()
+        if name in uses and name not in found:
+            found.append(name)
+            left += uses[name]
+    return found
 
 
-def program():
-    named = sys.argv[1] if len(sys.argv) > 1 else os.environ.get("PCM", os.path.join(ROOT, "crates", "pcm", "out", "pcm"))
-    return shutil.which(os.path.abspath(named)) or shutil.which(named)
-
-
-def wanted_frames(name, channels, frames):
-    """The frames, and silence up to a whole period."""
-    width, silence, _ = FORMATS[name]
-    missing = -FRAMES % PERIOD
-    return frames + bytes([silence]) * (missing * channels * width)
-
-
-def fault(pcm, folder, file, name, channels, frames):
-    """What is wrong with the playing of one file, or None."""
-    out = "out.wav"
-    run = subprocess.run([pcm, "play", file, out, str(PERIOD), str(PERIODS)], cwd=folder, capture_output=True)
-    if format_tag(os.path.join(folder, file)) == EXTENSIBLE:
-        return None if run.returncode == BAD_WAV else f"status {run.returncode} for an extensible file"
+def build(folder, file):
+    """Proves and compiles the program over a copy of the repository's crates, and runs it on one file."""
+    lines = (TOP / "crates.txt").read_text().splitlines()
+    uses = {line.split(":")[0]: line.split(":")[1].split() for line in lines if ":" in line and line[0] != "#"}
+    crates = needed(uses, USES)
+    for name in crates:
+        shutil.copytree(TOP / "crates" / name, folder / "crates" / name)
+    listed = [f"{name}: {' '.join(uses[name])}\n" for name in crates] + [f"{PROGRAM}: {' '.join(USES)}\n"]
+    (folder / "crates.txt").write_text("".join(listed))
+    source = folder / "crates" / PROGRAM / "src"
+    source.mkdir(parents=True)
+    shutil.copy(HERE / PROGRAM / "main.rt.in", source / "main.rt")
+    subprocess.run(["git", "init", "-q", str(folder)], check=True)
+    with open(file, "rb") as stdin:
+        run = subprocess.run(["rt", "run", "--jobs", "1"], cwd=source.parent, stdin=stdin, capture_output=True)
     if run.returncode != 0:
-        return f"status {run.returncode}: {run.stderr.decode(errors='replace').strip()}"
-    stored = FRAMES + -FRAMES % PERIOD
-    if run.stdout != f"played {FRAMES} stored {stored}\n".encode():
-        return f"wrote {run.stdout!r}"
-    with wave.open(os.path.join(folder, out), "rb") as stream:
-        shape = (stream.getnchannels(), stream.getsampwidth(), stream.getframerate())
-        read = stream.readframes(stream.getnframes())
-    if shape != (channels, FORMATS[name][0], RATE):
-        return f"channels, width and rate are {shape}"
-    if read != wanted_frames(name, channels, frames):
-        return "other frames"
+        sys.stderr.write(run.stderr.decode(errors="replace"))
+        return None
+    return source.parent / "out" / PROGRAM
+
+
+def fault(program, file, name, channels):
+    """What is wrong with one file, or None."""
+    run = subprocess.run([program], input=file.read_bytes(), capture_output=True)
+    told = run.stderr.decode(errors="replace").strip()
+    if format_tag(file) == EXTENSIBLE:
+        refused = (run.returncode, told, run.stdout) == (1, f"not PCM {EXTENSIBLE}", b"")
+        return None if refused else f"status {run.returncode} for an extensible file: {told}"
+    frames = frames_of(name, channels)
+    if (run.returncode, told) != (0, f"{name} {channels} {RATE} {len(frames)}"):
+        return f"status {run.returncode}: {told}"
+    again = file.with_suffix(".again.wav")
+    again.write_bytes(run.stdout)
+    with wave.open(str(again), "rb") as read:
+        if (read.getnchannels(), read.getsampwidth(), read.getframerate()) != (channels, FORMATS[name][0], RATE):
+            return "`wave` reads other channels, width or rate in what was written"
+        if read.readframes(read.getnframes()) != frames:
+            return "`wave` reads other frames in what was written"
+    if shutil.which("sox"):
+        read = subprocess.run(["sox", "-D", str(again), *raw(name, channels), "-"], capture_output=True)
+        if (read.returncode, read.stderr, read.stdout) != (0, b"", frames):
+            return f"`sox` reads other frames in what was written, or complains: {read.stderr.decode().strip()}"
     return None
 
 
+def files_in(folder):
+    """Writes the files; each with its format and channels."""
+    files = []
+    for writer, write in WRITERS.items():
+        if not writer.startswith("sox") or shutil.which("sox"):
+            for name in FORMATS:
+                for channels in range(1, 9):
+                    files.append((folder / f"{writer}-{name}-{channels}.wav", name, channels))
+                    write(*files[-1])
+    return files
+
+
+def test(folder):
+    """How many files passed and failed."""
+    files = files_in(folder)
+    if not shutil.which("rt"):
+        print("skipped: no program rt, so nothing is read")
+        return 0, 0
+    program = build(folder / "repository", files[0][0])
+    if program is None:
+        print(f"failed: the program {PROGRAM} was not built")
+        return 0, len(files)
+    faults = [(file.name, fault(program, file, name, channels)) for (file, name, channels) in files]
+    failed = [f"failed: {file}: {wrong}" for (file, wrong) in faults if wrong]
+    for line in failed:
+        print(line)
+    return len(files) - len(failed), len(failed)
+
+
 def main():
+    if not shutil.which("sox"):
+        print("skipped: no program sox, so it writes and reads no file")
     with tempfile.TemporaryDirectory() as folder:
-        files = prepare(folder)
-        pcm = program()
-        if pcm is None:
-            print(f"skipped: no program pcm, so {len(files)} files are written and not played")
-            print(f"0 passed, 0 failed, {len(files)} skipped")
-            return 0
-        failed = 0
-        for file, name, channels, frames in files:
-            wrong = fault(pcm, folder, file, name, channels, frames)
-            if wrong is not None:
-                failed += 1
-                print(f"failed: {file}: {wrong}")
-        print(f"{len(files) - failed} passed, {failed} failed, 0 skipped")
-        return 1 if failed else 0
+        passed, failed = test(Path(folder))
+    skipped = len(WRITERS) * len(FORMATS) * 8 - passed - failed
+    print(f"{passed} passed, {failed} failed, {skipped} skipped")
+    return 1 if failed else 0
 
 
 if __name__ == "__main__":

@@ -1,4 +1,4 @@
--- One turn of a transfer, followed by the closed form of what is left, is the closed form of all. That a turn ends at the ring's end is this project's own.
+-- One turn of a transfer, followed by the closed form of what is left, is the closed form of all. A turn ends at the ring's end (__snd_pcm_lib_xfer of pcm_lib.c).
 use Rattle.std.specs.Prelude.{◌≡◌, ℕ, true, false, List, [], ◌++◌, length, take, drop, min, ◌+◌, ◌-◌, ◌%◌, ◌<◌, ◌≤◌}
 use Rattle.pcm_base.specs.declared.act.Act.TheVariants as act
 use Rattle.pcm_base.specs.declared.ids.ClientId.{ClientId}

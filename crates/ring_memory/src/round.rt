@@ -10,7 +10,9 @@ pub(crate) fn write_round(ring: &mut [u8], start: usize, bytes: &[u8])
 {
     let near = bytes.len().min(ring.len() - start);
     ring[start..start + near].copy_from_slice(&bytes[..near]);
-    ring[..bytes.len() - near].copy_from_slice(&bytes[near..]);
+    if near < bytes.len() {
+        ring[..bytes.len() - near].copy_from_slice(&bytes[near..]);
+    }
 }
 
 // Writes so many bytes of one value over the ring from `start` on.
@@ -33,5 +35,7 @@ pub(crate) fn copy_round(ring: &[u8], start: usize, out: &mut [u8])
     let near = out.len().min(ring.len() - start);
     out[..near].copy_from_slice(&ring[start..start + near]);
     let rest = out.len() - near;
-    out[near..].copy_from_slice(&ring[..rest]);
+    if rest > 0 {
+        out[near..].copy_from_slice(&ring[..rest]);
+    }
 }

@@ -1,4 +1,4 @@
--- Transfers of one stream (__snd_pcm_lib_xfer of pcm_lib.c): the checks, and the loop in closed form. The access rule, the refusal of the wrong direction, the limit of one read and the turns are this project's own.
+-- Transfers of one stream (__snd_pcm_lib_xfer of pcm_lib.c): the checks, and the loop in closed form. The access rule, the refusal of the wrong direction and the limit of one read are this project's own.
 use Rattle.std.specs.Prelude.{ℕ, Bool, true, false, not, ◌&&◌, ◌||◌, nat_eq, nat_le, List, [], ◌∷◌, ◌++◌, length, take, drop, min, zero, suc, ◌+◌, ◌-◌, ◌/◌, ◌%◌, if◌then◌else◌}
 use Rattle.std.specs.declared.option.Option.{Option}
 use Rattle.std.specs.declared.option.Option.TheVariants.{Some, None}
