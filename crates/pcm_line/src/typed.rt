@@ -24,6 +24,7 @@ impl<'a> Pieces<'a> {
         Ok(piece)
     }
 
+    /// The next piece as a number.
     pub fn number(&mut self) -> Result<u64, LineError>
         ensures { Gives (λ v. (v, place_at self.new.at self.new.rest.now)) result (read_value OfNumber (place_at self.old.at self.old.rest.now)) }
     {
@@ -32,6 +33,7 @@ impl<'a> Pieces<'a> {
         kinds::number(piece).ok_or(LineError::Number(at))
     }
 
+    /// The next piece as a client.
     pub fn client(&mut self) -> Result<ClientId, LineError>
         ensures { Gives (λ v. (v, place_at self.new.at self.new.rest.now)) result (read_value OfClient (place_at self.old.at self.old.rest.now)) }
     {
@@ -43,6 +45,7 @@ impl<'a> Pieces<'a> {
         }
     }
 
+    /// The next piece as a substream.
     pub fn sub(&mut self) -> Result<SubId, LineError>
         ensures { Gives (λ v. (v, place_at self.new.at self.new.rest.now)) result (read_value OfSub (place_at self.old.at self.old.rest.now)) }
     {
@@ -54,6 +57,7 @@ impl<'a> Pieces<'a> {
         }
     }
 
+    /// The next piece as a mode of a transfer.
     pub fn mode(&mut self) -> Result<Mode, LineError>
         ensures { Gives (λ v. (v, place_at self.new.at self.new.rest.now)) result (read_value OfMode (place_at self.old.at self.old.rest.now)) }
     {
@@ -61,6 +65,7 @@ impl<'a> Pieces<'a> {
         kinds::mode(self.next()?).ok_or(LineError::Word(at))
     }
 
+    /// The next piece as a direction.
     pub fn dir(&mut self) -> Result<Dir, LineError>
         ensures { Gives (λ v. (v, place_at self.new.at self.new.rest.now)) result (read_value OfDir (place_at self.old.at self.old.rest.now)) }
     {
@@ -68,6 +73,7 @@ impl<'a> Pieces<'a> {
         kinds::dir(self.next()?).ok_or(LineError::Word(at))
     }
 
+    /// The next piece as the model of a card.
     pub fn model(&mut self) -> Result<Model, LineError>
         ensures { Gives (λ v. (v, place_at self.new.at self.new.rest.now)) result (read_value OfModel (place_at self.old.at self.old.rest.now)) }
     {
@@ -75,6 +81,7 @@ impl<'a> Pieces<'a> {
         kinds::model(self.next()?).ok_or(LineError::Word(at))
     }
 
+    /// The next piece as an access.
     pub fn access(&mut self) -> Result<Access, LineError>
         ensures { Gives (λ v. (v, place_at self.new.at self.new.rest.now)) result (read_value OfAccess (place_at self.old.at self.old.rest.now)) }
     {
@@ -82,6 +89,7 @@ impl<'a> Pieces<'a> {
         kinds::access(self.next()?).ok_or(LineError::Word(at))
     }
 
+    /// The next piece as a format.
     pub fn format(&mut self) -> Result<Format, LineError>
         ensures { Gives (λ v. (v, place_at self.new.at self.new.rest.now)) result (read_value OfFormat (place_at self.old.at self.old.rest.now)) }
     {
@@ -89,6 +97,7 @@ impl<'a> Pieces<'a> {
         kinds::format(self.next()?).ok_or(LineError::Word(at))
     }
 
+    /// The next piece as the name of a file.
     pub fn name(&mut self) -> Result<Name, LineError>
         ensures { Gives (λ v. (v, place_at self.new.at self.new.rest.now)) result (read_value OfName (place_at self.old.at self.old.rest.now)) }
     {
@@ -97,6 +106,7 @@ impl<'a> Pieces<'a> {
         Name::of(piece).ok_or(LineError::Word(at))
     }
 
+    /// The next piece as bytes in hex.
     pub fn hex(&mut self, alloc: Global) -> Result<Bytes, LineError>
         ensures { Gives (λ v. (v, place_at self.new.at self.new.rest.now)) result (read_value OfHex (place_at self.old.at self.old.rest.now)) }
     {
