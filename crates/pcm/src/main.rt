@@ -4,10 +4,9 @@
 use pcm_io::{StdSink, StdSource};
 use pcm_text::{Status, fault_text};
 use pcm_top::pcm_main;
-use std::env;
-use std::io;
 use std::process::ExitCode;
 use std::rt::Env;
+use std::{env, io};
 
 fn status_of_run(rt: &(impl Env + Input + Print + AllocGlobal)) -> Status {
     let Ok(all) = env::args(rt) else {

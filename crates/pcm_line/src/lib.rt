@@ -7,6 +7,8 @@
 //! It stands on `pcm_base` for the values. The language is this project's own; its words are those of ALSA.
 #![tactic(auto)]
 
+#[cfg(test)]
+mod cut_tests;
 mod error;
 mod hex;
 mod keyword;

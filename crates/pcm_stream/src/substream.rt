@@ -58,7 +58,7 @@ impl<C: Card> Substream<C> {
     ghost use Rattle.pcm_base.specs.model.Words.{is_closed};
     ghost use Rattle.pcm_stream.specs.Runs.{IsNewRuntime};
     ghost use Rattle.pcm_stream.specs.SetUp.{hw_refusal, configured_by};
-    ghost use Rattle.pcm_stream.specs.StandsFor.{StandsFor, IsShapeOf, card_of, shape_in};
+    ghost use Rattle.pcm_stream.specs.StandsFor.{StandsFor, IsShapeOf, card_of, faults_of, shape_in};
 
     /// A substream that no client has opened, over a card that stands, has no frames taken and none to give, and has no
     /// fault planned. `long_max` is the LONG_MAX of the session, at most 2^36 - 1. Its buffer will be taken from `alloc`.
@@ -160,6 +160,7 @@ impl<C: Card> Substream<C> {
     pub fn open_sub(&mut self) -> Result<(), Errno>
         ensures ok { (s : Stream) → StandsFor self.old s → OnOk result ((is_closed s.state ≡ true) × StandsFor self.new (record s { state = State.Opened })) }
         ensures busy { (s : Stream) → StandsFor self.old s → IfErr result (λ e. (e ≡ Errno.Ebusy) × (is_closed s.state ≡ false) × StandsFor self.new s) }
+        ensures faults { faults_of self.new ≡ faults_of self.old }
     {
         match self.state {
             State::Closed => {
@@ -181,6 +182,7 @@ impl<C: Card> Substream<C> {
             → (result ≡ Err (HwRefusal.Errno Errno.Einval)) × StandsFor self.new (freed s) }
         ensures memory { (s : Stream) → StandsFor self.old s → result ≡ Err HwRefusal.Memory
             → (hw_refusal busy s ≡ None) × (accepts s.model s.long_max config.now ≡ true) × StandsFor self.new s }
+        ensures faults { faults_of self.new ≡ faults_of self.old }
     {
         if let Err(e) = self.hw_allowed(busy) {
             return Err(HwRefusal::Errno(e));
@@ -227,7 +229,8 @@ impl<C: Card> Substream<C> {
 
     // The configuration goes, with its buffer, and the card's lists are emptied.
     fn free(&mut self)
-        ensures { (s : Stream) → StandsFor self.old s → s.mappings ≡ 0 → StandsFor self.new (freed s) }
+        ensures model { (s : Stream) → StandsFor self.old s → s.mappings ≡ 0 → StandsFor self.new (freed s) }
+        ensures faults { faults_of self.new ≡ faults_of self.old }
     {
         if let Some(runtime) = &self.runtime {
             self.card.set_up(&runtime.shape);
@@ -241,8 +244,9 @@ impl<C: Card> Substream<C> {
     fn take_up(&mut self, shape: &Shape, runtime: Runtime)
         requires sound { IsSoundShape shape.now }
         requires shape { runtime.shape ≡ shape.now }
-        ensures { (s : Stream) (c : Configuration) → StandsFor self.old s → accepts s.model s.long_max c ≡ true → shape.now ≡ shape_of c s.long_max → s.mappings ≡ 0
+        ensures model { (s : Stream) (c : Configuration) → StandsFor self.old s → accepts s.model s.long_max c ≡ true → shape.now ≡ shape_of c s.long_max → s.mappings ≡ 0
             → IsNewRuntime c shape.now runtime → StandsFor self.new (configured_by c s) }
+        ensures faults { faults_of self.new ≡ faults_of self.old }
     {
         self.card.set_up(shape);
         self.runtime = Some(runtime);

@@ -46,12 +46,18 @@ fn put(stream: &mut Substream<AnyCard>, frames: &[u8]) {
 fn a_card_takes_what_was_put_and_finds_an_underrun(rt: HostRuntime) {
     let card = AnyCard::new(rt.alloc(), Model::Basic, Dir::Playback);
     let mut stream = Substream::new(rt.alloc(), card, Dir::Playback, 2_147_483_647);
-    assert_eq!(rt; stream.hw_params(&SMALL, false), Err(HwRefusal::Errno(Errno::Enxio)));
+    assert_eq!(rt;
+        stream.hw_params(&SMALL, false),
+        Err(HwRefusal::Errno(Errno::Enxio))
+    );
     assert_eq!(rt; stream.open_sub(), Ok(()));
     assert_eq!(rt; stream.open_sub(), Err(Errno::Ebusy));
     assert_eq!(rt; stream.hw_params(&SMALL, false), Ok(()));
     assert_eq!(rt; make(&mut stream, Act::Start), Err(Errno::Ebadfd));
-    assert_eq!(rt; make(&mut stream, Act::Prepare { stop_first: false }), Ok(()));
+    assert_eq!(rt;
+        make(&mut stream, Act::Prepare { stop_first: false }),
+        Ok(())
+    );
     assert_eq!(rt; make(&mut stream, Act::Start), Err(Errno::Epipe));
     put(&mut stream, &[1, 2, 3]);
     assert_eq!(rt; stream.dma(1), Err(DmaRefusal::Idle));

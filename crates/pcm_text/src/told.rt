@@ -10,6 +10,9 @@ use crate::{push_number, push_reply, push_text};
 use pcm_base::Told;
 use std::alloc::{AllocError, Global};
 
+// More bytes than any line has beside those that it shows.
+const LINE_ROOM: usize = 256;
+
 fn push_line(
     text: &mut Vec<u8>,
     number: u64,
@@ -52,7 +55,7 @@ pub fn push_told(
     pushed
 }
 
-/// One line of the transcript, ended by a line feed, as `push_told` puts it. This project's own.
+/// One line of the transcript, ended by a line feed, as `push_told` puts it, made with one allocation. This project's own.
 pub fn told_text(
     alloc: Global,
     number: u64,
@@ -62,7 +65,12 @@ pub fn told_text(
     requires { told.now.reply ≢ Memory }
     ensures { IfOk result (λ v. v.items ≡ told_line number told.now (option_copied bytes.entry)) }
 {
-    let mut text = Vec::new(alloc);
+    let shown = match bytes {
+        Some(bytes) => bytes.len(),
+        None => 0,
+    };
+    let room = shown.saturating_mul(2).saturating_add(LINE_ROOM);
+    let mut text = Vec::with_capacity(alloc, room)?;
     push_told(&mut text, number, told, bytes)?;
     Ok(text)
 }

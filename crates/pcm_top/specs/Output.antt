@@ -29,6 +29,14 @@ was_cut status.WriteFault = true
 was_cut status.Memory = true
 was_cut _ = false
 
+-- the statuses that the program gives
+abbrev pub is_of_refine : Status → Bool
+is_of_refine status.ShelfFault = false
+is_of_refine (status.Missing name) = false
+is_of_refine (status.BadWav name error) = false
+is_of_refine (status.Refused errno) = false
+is_of_refine _ = true
+
 -- the front of a script that is read: one byte past the limit, if there are so many
 abbrev pub script_front : List ℕ → List ℕ
 script_front script = take (byte_limit + 1) script

@@ -3,7 +3,7 @@ ghost use Rattle.std.specs.Prelude.{◌≡◌, ◌≢◌, ◌↔◌, map, true, 
 ghost use Rattle.std.specs.Io.KnownBytes.{IsAtEnd};
 ghost use Rattle.pcm_base.specs.Causes.{Rose};
 ghost use Rattle.pcm_top.specs.Refine.{ScriptRefinesTo};
-ghost use Rattle.pcm_top.specs.Output.{asks_to_refine, status_of as ends_with, was_cut, script_front, IsOutput, IsFront};
+ghost use Rattle.pcm_top.specs.Output.{asks_to_refine, status_of as ends_with, was_cut, is_of_refine, script_front, IsOutput, IsFront};
 
 use crate::end::End;
 use crate::refine::{BYTE_LIMIT, LINE_LIMIT, Refined, refine_lines};
@@ -63,6 +63,7 @@ pub fn pcm_main<S: Source, K: Sink>(
     ensures output { was_cut result ≡ false → asks_to_refine (map string_bytes words.now) ≡ true →
         IfSome (S.left source.old) (λ script. IsOutput script (K.written out.old) (K.written out.new) result) }
     ensures front { IfSome (S.left source.old) (λ script. IsFront script (K.written out.old) (K.written out.new)) }
+    ensures statuses { is_of_refine result ≡ true }
     ensures ended { result ≡ Status.Ok → IsAtEnd (S.left source.new) }
 
     // The causes: a fault of the source or of the sink, named by the status.

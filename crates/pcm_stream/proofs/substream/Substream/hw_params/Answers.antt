@@ -13,4 +13,4 @@ returns-in-Ok-new-clause-ok g c s h =
     subst (λ (m : CardModel). accepts m s.long_max c.args.config.now ≡ true) model
     (subst (λ (n : ℕ). accepts c.model.result.now n c.args.config.now ≡ true) h.shows.long_max c.in-Ok.ensures.ok) in
     let shape : c.in-Ok.shape ≡ shape_of c.args.config.now s.long_max = c.in-Ok.ensures.shape ∙ ap (shape_of c.args.config.now) h.shows.long_max in
-    (allowed, accepted, c.take_up.ensures s c.args.config.now h accepted shape (allowed-unmapped c.args.busy s allowed) c.in-Ok-new.ensures)
+    (allowed, accepted, c.take_up.ensures.model s c.args.config.now h accepted shape (allowed-unmapped c.args.busy s allowed) c.in-Ok-new.ensures)

@@ -11,8 +11,8 @@ use Rattle.pcm_stream.proofs.CardLemmas.{new-runs, new-position, configured-soun
 use Rattle.pcm_stream.proofs.StreamLemmas.{for_some, no_none}
 use Rattle.pcm_stream.proofs.substream.Substream.take_up.Goals as goal
 
-pub returns : goal.returns
-returns g c s config h accepted shape unmapped new =
+pub returns-clause-model : goal.returns-clause-model
+returns-clause-model g c s config h accepted shape unmapped new =
     let facts = c.set_up.ensures.after in
     let now : RunsFor c.args.runtime (configured_by config s) = new-runs config s c.args.runtime (subst (λ (x : Shape). IsNewRuntime config x c.args.runtime) shape new) unmapped in
     let buffer : c.args.runtime.shape.buffer ≡ buffer_of config = ap (λ (x : Shape). x.buffer) (c.requires.shape ∙ shape) in
