@@ -1,4 +1,4 @@
-use Rattle.std.proofs.Common.{◌≡◌, refl, Option, None, Some, Result, Ok, Err, MatchResult}
+use Rattle.std.proofs.Common.{◌≡◌, refl, Option, None, Some, MatchResult}
 use Rattle.pcm_base.specs.declared.state.Errno.{Errno}
 use Rattle.state_table.specs.Cases.{answer_of}
 use Rattle.pcm_stream.proofs.substream.acts.vote_able.Goals as goal
