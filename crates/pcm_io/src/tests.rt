@@ -104,6 +104,8 @@ fn a_folder_holds_what_was_stored(rt: HostRuntime) -> Result<(), Fail> {
     fs::create_dir_all(&rt, "shelf/folder")?;
     let mut shelf = FolderShelf::new(&rt, rt.alloc(), folder);
     let (one, missing, place) = (named(b"one.wav")?, named(b"none.wav")?, named(b"folder")?);
+    let other = named(b"other.wav")?;
+    assert_eq!(rt; shelf.store(&other, b"stays"), Ok(()));
     for bytes in [b"a longer first".as_slice(), b"second".as_slice()] {
         assert_eq!(rt; shelf.store(&one, bytes), Ok(()));
         let loaded = shelf.load(&one)?.ok_or("no file")?;
@@ -112,6 +114,8 @@ fn a_folder_holds_what_was_stored(rt: HostRuntime) -> Result<(), Fail> {
     assert!(rt; shelf.load(&missing)?.is_none());
     assert_eq!(rt; shelf.load(&place).err(), Some(ShelfError::Failed));
     assert_eq!(rt; shelf.store(&place, b"bytes"), Err(ShelfError::Failed));
+    let kept = shelf.load(&other)?.ok_or("no other file")?;
+    assert_eq!(rt; kept.as_slice(), b"stays".as_slice());
     assert!(rt; !fs::exists(&rt, "shelf/.one.wav.part0")?);
     fs::remove_dir_all(&rt, folder)?;
     Ok(())

@@ -162,3 +162,10 @@ fn operands_stand_in_their_order(rt: HostRuntime) -> Result<(), Fail> {
     }
     Ok(())
 }
+
+#[test]
+fn bytes_are_copied(rt: HostRuntime) -> Result<(), Fail> {
+    let copy = pcm_base::Bytes::copy_of(rt.alloc(), &[1, 2, 3])?;
+    assert_eq!(rt; copy.as_slice(), [1, 2, 3].as_slice());
+    Ok(())
+}
