@@ -1,6 +1,6 @@
 // A substream: who it is and where it stands.
 ghost use Rattle.std.specs.Prelude.{◌≡◌, ◌<◌, ◌-◌, ◌^◌, [], true, false, None, Some, min, OnOk, MatchResult, IfErr, IfSome, IfNone};
-ghost use Rattle.std.specs.Option.{ForSome, ForNone, option_copied};
+ghost use Rattle.std.specs.Option.{ForSome, ForNone, option_copied, option_map};
 ghost use Rattle.pcm_base.specs.model.Stream.{Stream, fresh, no_plan};
 
 mod acts;
@@ -8,7 +8,7 @@ mod moves;
 
 use crate::runtime::Runtime;
 use hw_params::check;
-use pcm_base::{CallKind, Card, Config, Dir, Errno, Page, Shape, State};
+use pcm_base::{CallKind, Card, Config, Dir, Errno, Page, Shape, State, SwParams};
 use state_table::permit;
 use std::alloc::Global;
 
@@ -142,6 +142,16 @@ impl<C: Card> Substream<C> {
         match &self.runtime {
             None => None,
             Some(runtime) => Some(&runtime.config),
+        }
+    }
+
+    /// The software parameters, where there is a configuration (`snd_pcm_sw_params`).
+    pub fn sw(&self) -> Option<&SwParams>
+        ensures { (s : Stream) → StandsFor self.now s → option_copied result ≡ option_map (λ _. s.setup.sw) s.setup.config }
+    {
+        match &self.runtime {
+            None => None,
+            Some(runtime) => Some(&runtime.sw),
         }
     }
 

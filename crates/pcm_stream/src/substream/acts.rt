@@ -70,7 +70,7 @@ fn vote_able(able: bool, kind: CallKind, state: State, dir: Dir) -> Result<(), E
 }
 
 impl<C: Card> Substream<C> {
-    ghost use Rattle.pcm_stream.specs.StandsFor.{StandsFor, Shows, HasDone, card_of, faults_of};
+    ghost use Rattle.pcm_stream.specs.StandsFor.{StandsFor, Shows, HasDone, card_of, faults_of, shape_in};
 
     /// What this member says to an act: its errno where it refuses, the causes in order (`snd_pcm_pre_start` and its
     /// kin).
@@ -233,6 +233,7 @@ impl<C: Card> Substream<C> {
         ensures failed { (s : Stream) → StandsFor self.old s → OnErr result (StandsFor self.new (asked s act)) }
         ensures trips { (s : Stream) → StandsFor self.old s → IsSome (card_of self.old).plan → is_err result ≡ trips s act }
         ensures cause { HasCause (faults_of self.old) (faults_of self.new) result }
+        ensures shape { shape_in self.new ≡ shape_in self.old }
     {
         match self.trigger_for(act) {
             Some(trigger) => self.card.trigger(trigger),
@@ -244,6 +245,7 @@ impl<C: Card> Substream<C> {
     pub fn undo_act(&mut self, act: Act)
         ensures undone { (s : Stream) → HasDone act self.old s → StandsFor self.new (asked s act) }
         ensures faults { faults_of self.new ≡ faults_of self.old }
+        ensures shape { shape_in self.new ≡ shape_in self.old }
     {
         if let Some(trigger) = self.trigger_for(act) {
             if self.card.runs() != self.ran() {
@@ -258,6 +260,7 @@ impl<C: Card> Substream<C> {
         requires stop { is_stop act ≡ true }
         ensures done { (s : Stream) → HasDone act self.old s → StandsFor self.new (after act Yes Done s) }
         ensures faults { faults_of self.new ≡ faults_of self.old }
+        ensures shape { shape_in self.new ≡ shape_in self.old }
     {
         match act {
             Act::Start => {
@@ -283,6 +286,7 @@ impl<C: Card> Substream<C> {
         ensures shows { (s : Stream) → Shows self.old s → Shows self.new (stopped state s) }
         ensures card { card_of self.new ≡ card_of self.old }
         ensures faults { faults_of self.new ≡ faults_of self.old }
+        ensures shape { shape_in self.new ≡ shape_in self.old }
     {
         match self.state {
             State::Opened | State::Closed => {}
@@ -298,6 +302,7 @@ impl<C: Card> Substream<C> {
         ensures runs { (card_of self.new).runs ≡ (card_of self.old).runs }
         ensures plan { (card_of self.new).plan ≡ (card_of self.old).plan }
         ensures faults { faults_of self.new ≡ faults_of self.old }
+        ensures shape { shape_in self.new ≡ shape_in self.old }
     {
         self.state = State::Prepared;
         self.kept = None;
@@ -311,6 +316,7 @@ impl<C: Card> Substream<C> {
         ensures shows { (s : Stream) → Shows self.old s → Shows self.new (resumed s) }
         ensures card { card_of self.new ≡ card_of self.old }
         ensures faults { faults_of self.new ≡ faults_of self.old }
+        ensures shape { shape_in self.new ≡ shape_in self.old }
     {
         if let Some(state) = self.kept {
             self.state = state;
@@ -323,6 +329,7 @@ impl<C: Card> Substream<C> {
         ensures shows { (s : Stream) → Shows self.old s → Sound s → Shows self.new (drained s) }
         ensures card { card_of self.new ≡ card_of self.old }
         ensures faults { faults_of self.new ≡ faults_of self.old }
+        ensures shape { shape_in self.new ≡ shape_in self.old }
     {
         match self.dir {
             Dir::Playback => self.post_drain_playback(),
@@ -334,6 +341,7 @@ impl<C: Card> Substream<C> {
         ensures shows { (s : Stream) → s.dir ≡ Playback → Shows self.old s → Sound s → Shows self.new (drained s) }
         ensures card { card_of self.new ≡ card_of self.old }
         ensures faults { faults_of self.new ≡ faults_of self.old }
+        ensures shape { shape_in self.new ≡ shape_in self.old }
     {
         match self.state {
             State::Prepared => {
@@ -354,6 +362,7 @@ impl<C: Card> Substream<C> {
         ensures shows { (s : Stream) → s.dir ≡ Capture → Shows self.old s → Sound s → Shows self.new (drained s) }
         ensures card { card_of self.new ≡ card_of self.old }
         ensures faults { faults_of self.new ≡ faults_of self.old }
+        ensures shape { shape_in self.new ≡ shape_in self.old }
     {
         if let State::Running = self.state {
             if self.has_frames() {
@@ -369,6 +378,7 @@ impl<C: Card> Substream<C> {
         ensures shows { (s : Stream) → Shows self.old s → ForSome s.setup.config (λ _. IsPlaced s) → Shows self.new (fill s) }
         ensures card { card_of self.new ≡ card_of self.old }
         ensures faults { faults_of self.new ≡ faults_of self.old }
+        ensures shape { shape_in self.new ≡ shape_in self.old }
     {
         match self.dir {
             Dir::Playback => {

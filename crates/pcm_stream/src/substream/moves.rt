@@ -36,6 +36,7 @@ impl<C: Card> Substream<C> {
         ensures found { (s : Stream) → StandsFor self.old s → result ≡ (update_of s).found }
         ensures model { (s : Stream) → StandsFor self.old s → StandsFor self.new (update_of s).stream }
         ensures faults { faults_of self.new ≡ faults_of self.old }
+        ensures shape { shape_in self.new ≡ shape_in self.old }
     {
         if !self.card.runs() {
             return Updated::Nothing;
@@ -54,6 +55,7 @@ impl<C: Card> Substream<C> {
     fn report(&mut self)
         ensures model { (s : Stream) → StandsFor self.old s → s.card.runs ≡ true → StandsFor self.new (moved_up s) }
         ensures faults { faults_of self.new ≡ faults_of self.old }
+        ensures shape { shape_in self.new ≡ shape_in self.old }
     {
         let Some(runtime) = &mut self.runtime else {
             return;
@@ -84,6 +86,7 @@ impl<C: Card> Substream<C> {
     fn end_drain(&mut self)
         ensures model { (s : Stream) → StandsFor self.old s → found_of s ≡ DrainDone → StandsFor self.new (settled DrainDone s) }
         ensures faults { faults_of self.new ≡ faults_of self.old }
+        ensures shape { shape_in self.new ≡ shape_in self.old }
     {
         self.state = State::Setup;
         let _ = self.card.trigger(Trigger::Stop);
@@ -113,6 +116,7 @@ impl<C: Card> Substream<C> {
         ensures moved { (s : Stream) → StandsFor self.old s → result ≢ Err DmaRefusal.Memory → StandsFor self.new (move n s).stream }
         ensures memory { (s : Stream) → StandsFor self.old s → result ≡ Err DmaRefusal.Memory → StandsFor self.new s }
         ensures faults { faults_of self.new ≡ faults_of self.old }
+        ensures shape { shape_in self.new ≡ shape_in self.old }
     {
         if !self.card.runs() {
             return Err(DmaRefusal::Idle);
@@ -140,6 +144,7 @@ impl<C: Card> Substream<C> {
         ensures moved { (s : Stream) → StandsFor self.old s → CanMove Playback n s → result ≢ Err DmaRefusal.Memory → StandsFor self.new (move n s).stream }
         ensures memory { (s : Stream) → StandsFor self.old s → result ≡ Err DmaRefusal.Memory → StandsFor self.new s }
         ensures faults { faults_of self.new ≡ faults_of self.old }
+        ensures shape { shape_in self.new ≡ shape_in self.old }
     {
         let Some(runtime) = &mut self.runtime else {
             return Err(DmaRefusal::Idle);
@@ -163,6 +168,7 @@ impl<C: Card> Substream<C> {
         requires { ForSome self.old.runtime (λ r. n < r.shape.buffer) }
         ensures moved { (s : Stream) → StandsFor self.old s → CanMove Capture n s → StandsFor self.new (move n s).stream }
         ensures faults { faults_of self.new ≡ faults_of self.old }
+        ensures shape { shape_in self.new ≡ shape_in self.old }
     {
         let Some(runtime) = &mut self.runtime else {
             return;

@@ -8,4 +8,5 @@ returns-in_default g c = record {
       (record { dir = refl; long_max = refl; runtime = refl; model = refl; taken = refl; to_give = refl; position = refl }) refl refl c.in_default.not-Closed c.in_default.not-Opened h;
   card = refl;
   faults = refl;
+  shape = refl;
 }
