@@ -3,4 +3,5 @@ pub mod SlotLemmas
 pub mod StreamLemmas
 pub mod MoveLemmas
 pub mod ActsLemmas
+pub mod LayoutLemmas
 pub mod CardLemmas

@@ -1,5 +1,5 @@
 // What an accepted configuration sets up, until it is freed (the part of `struct snd_pcm_runtime` that hw_params fills).
-ghost use Rattle.std.specs.Prelude.{◌≡◌, ◌≤◌, ◌<◌, ◌+◌, ◌-◌, ◌*◌, ◌%◌, ◌/◌, ℕ, length, vec_len, false, IfOk, IfSome, IsSome, Some, List, slice_range, take};
+ghost use Rattle.std.specs.Prelude.{◌≡◌, ◌≤◌, ◌<◌, ◌+◌, ◌-◌, ◌*◌, ◌%◌, ◌/◌, ℕ, length, vec_len, false, IfOk, IfSome, IsSome, Some, List, slice_range, take, drop};
 ghost use Rattle.std.specs.Option.{ForSome};
 ghost use Rattle.pcm_base.specs.CardFacts.{gave, given_bytes};
 ghost use Rattle.pcm_base.specs.Shape.{IsSoundShape, AreFrames, count_of};
@@ -12,14 +12,14 @@ ghost use Rattle.pcm_base.specs.model.Update.{reported, lap, fill};
 ghost use Rattle.pcm_base.specs.model.Movement.{taken_by};
 ghost use Rattle.pcm_base.specs.model.Standing.{Put, put_at, standing_at};
 ghost use Rattle.ring_memory.specs.Ring.{StandsForPuts, zero_frame as ring_zero};
-ghost use Rattle.pcm_base.specs.model.Transfer.{put_next};
+ghost use Rattle.pcm_base.specs.model.Transfer.{frames_by, put_next};
 ghost use Rattle.pcm_stream.specs.Wide.{AreWide};
 ghost use Rattle.hw_update.specs.HwPtr.{IsBased};
 ghost use Rattle.pcm_stream.specs.Sized.{IsSized};
 
 use boundary_ptr::{add, avail_capture, avail_play};
 use hw_update::{HwPtr, advance};
-use pcm_base::{Access, Card, Config, Dir, Shape, SwParams};
+use pcm_base::{Access, Card, Config, Dir, Layout, Shape, SwParams};
 use pcm_format::silence_of;
 use ring_memory::Ring;
 use silence_fill::plan;
@@ -112,17 +112,34 @@ impl Runtime {
         }
     }
 
-    /// Puts these frames at the application pointer, which moves on by them.
-    pub fn put(&mut self, frames: &[u8])
-        requires whole { AreFrames self.old.shape frames.now }
-        requires count { length frames.now ≤ self.old.shape.buffer * self.old.shape.frame_bytes }
+    /// Puts the frames `first` to `first + count - 1` of `io` at the application pointer, which moves on by them.
+    pub fn put(&mut self, layout: Layout, io: &[u8], first: u64, count: u64)
+        requires whole { AreFrames self.old.shape io.now }
+        requires within { first + count ≤ count_of self.old.shape io.now }
+        requires fits { count ≤ self.old.shape.buffer }
+        ensures shape { self.new.shape ≡ self.old.shape }
+        ensures put { (s : Stream) → RunsFor self.old s → RunsFor self.new (put_next (take count (drop first (frames_by layout s io.now))) s) }
+    {
+        self.place(layout, io, first, count);
+        self.appl = add(&self.shape, self.appl, count);
+    }
+
+    // Puts these frames at the application pointer, which stays.
+    fn place(&mut self, layout: Layout, io: &[u8], first: u64, count: u64)
+        requires whole { AreFrames self.old.shape io.now }
+        requires within { first + count ≤ count_of self.old.shape io.now }
+        requires fits { count ≤ self.old.shape.buffer }
         ensures shape { self.new.shape ≡ self.old.shape }
         ensures put { (s : Stream) → RunsFor self.old s
-            → RunsFor self.new (put_next (frames_of (length frames.now / self.old.shape.frame_bytes) self.old.shape.frame_bytes frames.now) s) }
+            → Keeps self.new (with_puts (put_at s.at.appl (take count (drop first (frames_by layout s io.now))) s.puts) (known s)) }
     {
-        let count = frames.len() as u64 / self.shape.frame_bytes;
-        self.ring.put(self.appl, frames);
-        self.appl = add(&self.shape, self.appl, count);
+        match layout {
+            Layout::Interleaved => {
+                let frames = frames_from(io, first, count, self.shape.frame_bytes);
+                self.ring.put(self.appl, frames);
+            }
+            Layout::Planar => self.ring.put_area(self.appl, io, first, count),
+        }
     }
 
     /// How many frames the card has moved since the hardware pointer was reported.
@@ -186,6 +203,18 @@ impl Runtime {
     {
         self.moved = self.moved.saturating_add(count);
     }
+}
+
+// The frames `first` to `first + count - 1` of bytes that hold frame after frame.
+#[tactic(auto, using(crate::proofs::LayoutLemmas::part_fits))]
+fn frames_from(io: &[u8], first: u64, count: u64, frame_bytes: u64) -> &[u8]
+    requires within { first + count ≤ length io.now / frame_bytes }
+    ensures size { length result.now ≡ count * frame_bytes }
+    ensures frames { frames_of count frame_bytes result.now ≡ take count (drop first (frames_of (length io.now / frame_bytes) frame_bytes io.now)) }
+{
+    let start = (first * frame_bytes) as usize;
+    let size = (count * frame_bytes) as usize;
+    &io[start..start + size]
 }
 
 // Reads the frames that stand at a position into the first `size` bytes of `piece`.

@@ -4,7 +4,7 @@ ghost use Rattle.pcm_base.specs.model.Sound.{is_stop};
 
 use super::*;
 use card_emul::AnyCard;
-use pcm_base::{Access, Act, Card, Config, Dir, Errno, Format, Model, State, Updated};
+use pcm_base::{Access, Act, Card, Config, Dir, Errno, Format, Layout, Model, State, Updated};
 
 // Two periods of two one-byte frames.
 const SMALL: Config = Config {
@@ -32,13 +32,14 @@ fn make(stream: &mut Substream<AnyCard>, act: Act) -> Result<(), Errno>
     }
 }
 
-fn put(stream: &mut Substream<AnyCard>, frames: &[u8]) {
+fn put(stream: &mut Substream<AnyCard>, layout: Layout, io: &[u8]) {
     let Some(shape) = stream.shape() else {
         return;
     };
-    let fits = frames.len() as u64 <= shape.buffer * shape.frame_bytes;
-    if fits && frames.len() as u64 % shape.frame_bytes == 0 {
-        stream.put_interleaved(frames);
+    let size = io.len() as u64;
+    let count = size / shape.frame_bytes;
+    if size % shape.frame_bytes == 0 && count <= shape.buffer {
+        stream.put_frames(layout, io, 0, count);
     }
 }
 
@@ -59,7 +60,7 @@ fn a_card_takes_what_was_put_and_finds_an_underrun(rt: HostRuntime) {
         Ok(())
     );
     assert_eq!(rt; make(&mut stream, Act::Start), Err(Errno::Epipe));
-    put(&mut stream, &[1, 2, 3]);
+    put(&mut stream, Layout::Interleaved, &[1, 2, 3]);
     assert_eq!(rt; stream.dma(1), Err(DmaRefusal::Idle));
     assert_eq!(rt; make(&mut stream, Act::Start), Ok(()));
     assert_eq!(rt; stream.dma(3), Ok(3));
@@ -69,4 +70,25 @@ fn a_card_takes_what_was_put_and_finds_an_underrun(rt: HostRuntime) {
     assert_eq!(rt; stream.update(), Updated::StopXrun);
     assert_eq!(rt; make(&mut stream, Act::Stop(State::Xrun)), Ok(()));
     assert_eq!(rt; stream.state(), State::Xrun);
+}
+
+#[test]
+fn samples_that_lie_by_channel_are_taken_by_frame(rt: HostRuntime) {
+    let config = Config {
+        access: Access::RwNoninterleaved,
+        channels: 2,
+        ..SMALL
+    };
+    let card = AnyCard::new(rt.alloc(), Model::Basic, Dir::Playback);
+    let mut stream = Substream::new(rt.alloc(), card, Dir::Playback, 2_147_483_647);
+    assert_eq!(rt; stream.open_sub(), Ok(()));
+    assert_eq!(rt; stream.hw_params(&config, false), Ok(()));
+    assert_eq!(rt;
+        make(&mut stream, Act::Prepare { stop_first: false }),
+        Ok(())
+    );
+    put(&mut stream, Layout::Planar, &[0x01, 0x02, 0x11, 0x12]);
+    assert_eq!(rt; make(&mut stream, Act::Start), Ok(()));
+    assert_eq!(rt; stream.dma(2), Ok(2));
+    assert_eq!(rt; stream.card().taken(), [0x01, 0x11, 0x02, 0x12].as_slice());
 }

@@ -1,16 +1,16 @@
 // Where the card stands, and what moves between clients, the buffer and the card.
-ghost use Rattle.std.specs.Prelude.{◌≡◌, ◌≤◌, ◌<◌, ◌+◌, ◌*◌, ◌/◌, ◌^◌, ◌≢◌, true, None, Some, IsSome, IsErrOf, IfOk, OnOk, length};
+ghost use Rattle.std.specs.Prelude.{◌≡◌, ◌≤◌, ◌<◌, ◌+◌, ◌*◌, ◌/◌, ◌^◌, ◌≢◌, true, None, Some, IsSome, IsErrOf, IfOk, OnOk, take, drop};
 ghost use Rattle.std.specs.Option.{ForSome};
 ghost use Rattle.pcm_base.specs.declared.act.Updated.TheVariants.{DrainDone};
 ghost use Rattle.pcm_base.specs.declared.state.Dir.TheVariants.{Playback, Capture};
 ghost use Rattle.pcm_base.specs.model.Stream.{Stream, avail};
 ghost use Rattle.pcm_base.specs.model.Update.{update as update_of, moved_up, found as found_of, found_in as what_is_found, settled};
 ghost use Rattle.pcm_base.specs.model.Movement.{move};
-ghost use Rattle.pcm_base.specs.model.Transfer.{frames_in, put_next};
-ghost use Rattle.pcm_base.specs.Shape.{AreFrames};
+ghost use Rattle.pcm_base.specs.model.Transfer.{frames_by, put_next};
+ghost use Rattle.pcm_base.specs.Shape.{AreFrames, count_of};
 
 use super::{DmaRefusal, Substream};
-use pcm_base::{Card, Dir, State, Trigger, Updated};
+use pcm_base::{Card, Dir, Layout, State, Trigger, Updated};
 
 /// The most bytes that a playback card holds.
 pub const TAKEN_LIMIT: u64 = 67_108_864;
@@ -92,18 +92,20 @@ impl<C: Card> Substream<C> {
         let _ = self.card.trigger(Trigger::Stop);
     }
 
-    /// Puts whole interleaved frames at the application position, which moves on by them. On playback; at most as many as
-    /// are available and as the buffer holds (`__snd_pcm_lib_xfer`).
-    pub fn put_interleaved(&mut self, frames: &[u8])
+    /// Puts the frames `first` to `first + count - 1` of `io` at the application position, which moves on by them. On
+    /// playback; at most as many as are available and as the buffer holds. `io` holds whole frames, one after another, or
+    /// the samples of channel 0, then those of channel 1 and so on (`__snd_pcm_lib_xfer`).
+    pub fn put_frames(&mut self, layout: Layout, io: &[u8], first: u64, count: u64)
         requires shape { IsSome (shape_in self.old) }
-        requires whole { ForSome (shape_in self.old) (λ s. AreFrames s frames.now) }
-        requires count { ForSome (shape_in self.old) (λ s. length frames.now ≤ s.buffer * s.frame_bytes) }
-        ensures put { (s : Stream) → StandsFor self.old s → length (frames_in s frames.now) ≤ avail s → StandsFor self.new (put_next (frames_in s frames.now) s) }
-        ensures faults { faults_of self.new ≡ faults_of self.old }
+        requires whole { ForSome (shape_in self.old) (λ s. AreFrames s io.now) }
+        requires within { ForSome (shape_in self.old) (λ s. first + count ≤ count_of s io.now) }
+        requires fits { ForSome (shape_in self.old) (λ s. count ≤ s.buffer) }
+        ensures put { (s : Stream) → StandsFor self.old s → count ≤ avail s → StandsFor self.new (put_next (take count (drop first (frames_by layout s io.now))) s) }
         ensures shape { shape_in self.new ≡ shape_in self.old }
+        ensures faults { faults_of self.new ≡ faults_of self.old }
     {
         if let Some(runtime) = &mut self.runtime {
-            runtime.put(frames);
+            runtime.put(layout, io, first, count);
         }
     }
 
