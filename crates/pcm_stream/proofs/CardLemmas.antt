@@ -1,6 +1,7 @@
 -- What a card's set-up and its movements leave of what a substream stands for.
 use Rattle.std.proofs.Common.{ℕ, ◌≡◌, ◌+◌, ◌-◌, ◌*◌, ◌/◌, ◌%◌, ◌<◌, ◌≤◌, Bool, true, false, List, [], ◌∷◌, ◌++◌, length, take, drop, replicate, refl, sym, ◌∙◌, ap, subst, arith, zero, suc, IfSome, min, length-append, length-take}
 use Rattle.std.specs.Prelude.{nat_lt, if◌then◌else◌}
+use Rattle.std.specs.Option.{ForNone, ForSome}
 use Rattle.std.specs.declared.option.Option.{Option}
 use Rattle.std.specs.declared.option.Option.TheVariants.{Some, None}
 use Rattle.std.proofs.Math.Nat.{mod-mod, mod_self, mul-mod_left, mul-div_cancel, mul-sub}
@@ -36,7 +37,7 @@ use Rattle.pcm_laws.proofs.Remainders.{mod-add_same}
 use Rattle.pcm_laws.proofs.Sizes.{boundary_of-whole}
 use Rattle.pcm_stream.specs.Runs.{Keeps, RunsFor, IsNewRuntime, known, with_puts, with_count}
 use Rattle.pcm_stream.specs.SetUp.{hw_refusal, configured_by}
-use Rattle.pcm_stream.specs.StandsFor.{StandsFor}
+use Rattle.pcm_stream.specs.StandsFor.{IsUnset, StandsFor}
 use Rattle.pcm_stream.specs.Wide.{AreWide}
 use Rattle.pcm_stream.specs.declared.runtime.Runtime.{Runtime}
 use Rattle.pcm_stream.specs.declared.substream.Substream.{Substream}
@@ -203,6 +204,17 @@ pub AreWide-given : (n w : ℕ) (s : Stream) → s.setup.frame_bytes ≡ w → A
 AreWide-given n w s e wide =
     AreWide-append w (take n s.card.to_give) (replicate (n - length s.card.to_give) (zero_frame s)) (AreWide-take w n s.card.to_give wide)
     (AreWide-replicate (n - length s.card.to_give) w (zero_frame s) (length-replicate s.setup.frame_bytes 0 ∙ e))
+
+-- what a card has taken are whole frames of the configuration
+pub taken-whole : {C : Type 0} {g : Ghosts C} (sub : Substream C g) (s : Stream) → StandsFor sub s → (c : Config) → s.setup.config ≡ Some c → length (g.facts sub.card).taken % s.setup.frame_bytes ≡ 0
+taken-whole {C} {g} sub s h c e = by sub.runtime h.shows.unset h.shows.runs_for
+  where
+    by : (x : Option Runtime) → ForNone x (IsUnset s.setup.config s.moved) → ForSome x (λ r. RunsFor r s) → length (g.facts sub.card).taken % s.setup.frame_bytes ≡ 0
+    by None unset runs = let none : s.setup.config ≡ None = (unset refl).unset in absurd (cc)
+    by (Some r) unset runs =
+        let kept : RunsFor r s = runs r refl in
+        let size : length (g.facts sub.card).taken ≡ length s.card.taken * r.shape.frame_bytes = ap length h.shows.taken ∙ length-bytes_of r.shape.frame_bytes s.card.taken kept.taken in
+        ap (λ x. length (g.facts sub.card).taken % x) kept.frame_bytes ∙ ap (λ x. x % r.shape.frame_bytes) size ∙ mul-mod_left (length s.card.taken) r.shape.frame_bytes
 
 -- ---- set-up
 

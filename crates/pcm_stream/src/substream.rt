@@ -1,6 +1,7 @@
 // A substream: who it is and where it stands.
-ghost use Rattle.std.specs.Prelude.{◌≡◌, ◌<◌, ◌-◌, ◌^◌, [], true, false, None, Some, min, OnOk, MatchResult, IfErr, IfSome, IfNone};
+ghost use Rattle.std.specs.Prelude.{◌≡◌, ◌<◌, ◌≤◌, ◌-◌, ◌%◌, ◌^◌, [], true, false, None, Some, length, min, OnOk, MatchResult, IfErr, IfSome, IfNone};
 ghost use Rattle.std.specs.Option.{ForSome, ForNone, option_copied, option_map};
+ghost use Rattle.pcm_base.specs.model.Frame.{bytes_of};
 ghost use Rattle.pcm_base.specs.model.Stream.{Stream, fresh, no_plan};
 
 mod acts;
@@ -47,6 +48,7 @@ pub struct Substream<C: Card> {
     runtime: Option<Runtime>,
     ghost set_up: { ForSome runtime (λ r. (C.facts card).shape ≡ Some r.shape) },
     ghost long: { long_max < 2 ^ 36 },
+    ghost held: { length (C.facts card).taken ≤ 67108864 },
 }
 
 impl<C: Card> Substream<C> {
@@ -96,9 +98,12 @@ impl<C: Card> Substream<C> {
         self.dir
     }
 
-    /// The card.
+    /// The card. What it has taken are whole frames, at most 67,108,864 bytes.
     pub fn card(&self) -> &C
-        ensures { C.facts result.now ≡ card_of self.now }
+        ensures card { C.facts result.now ≡ card_of self.now }
+        ensures taken { (s : Stream) → StandsFor self.now s → (C.facts result.now).taken ≡ bytes_of s.card.taken }
+        ensures whole { (s : Stream) → StandsFor self.now s → ForSome s.setup.config (λ _. length (C.facts result.now).taken % s.setup.frame_bytes ≡ 0) }
+        ensures limit { length (C.facts result.now).taken ≤ 67108864 }
     {
         &self.card
     }
