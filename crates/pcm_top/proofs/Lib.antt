@@ -1,3 +1,2 @@
 pub mod LineLemmas
-pub mod RefineLemmas
-pub mod EndLemmas
+pub mod BoxLemmas

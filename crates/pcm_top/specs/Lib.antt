@@ -1,3 +1,9 @@
 pub mod Lines
+pub mod Alone
+pub mod OneStream
+pub mod Session
 pub mod Refine
+pub mod Run
+pub mod Script
+pub mod CodeSession
 pub mod Output

@@ -1,19 +1,27 @@
-//! The program's call: a command's words and a script in, the command's answers out, and a status that names what cut it
-//! short. The one command so far is `refine`.
+//! The program's call: a command's words and a script in, the command's answers and stored files out, and a status that
+//! names what cut it short. `run` executes a script over one substream, `refine` answers space lines.
 //!
-//! It stands on `pcm_line` for the lines, `card_emul` for the models of cards, `hw_params` for the least box, `pcm_text`
-//! for the statuses, and `pcm_io` for the outside. Its source is this project's own.
+//! It stands on `pcm_line` for the lines, `pcm_stream` for a substream over an emulated card of `card_emul`, `state_table`
+//! for what a state permits, `wav_file` for the files that a script stores, `hw_params` for the least box, `pcm_text` for
+//! the transcript and the statuses, and `pcm_io` for the outside. Its source is this project's own; what each event does is
+//! that of the kernel's `pcm_native.c` and `pcm_lib.c`.
 #![tactic(auto)]
 
+mod built;
+mod command;
 mod end;
+mod laws;
 mod lines;
 mod refine;
+mod save;
+mod script;
+mod session;
 #[cfg(test)]
-mod refine_tests;
+mod tests;
 mod top;
-#[cfg(test)]
-mod top_tests;
+mod world;
 
+pub use command::Command;
 pub use end::End;
-pub use refine::{Refined, one_refinement, refine_lines};
+pub use laws::one_output;
 pub use top::pcm_main;

@@ -2,13 +2,13 @@ use Rattle.std.proofs.Common.{rules, refl, List, ℕ, [], ◌∷◌, ◌++◌, c
 use Rattle.pcm_base.specs.declared.config.CardModel.{CardModel}
 use Rattle.hw_params.specs.Hull.{IsHull, HasNone}
 use Rattle.pcm_top.specs.Refine.{IsAnswer}
-use Rattle.pcm_top.proofs.RefineLemmas.{box-fits, on-appended, appended-twice}
+use Rattle.pcm_top.proofs.BoxLemmas.{box-fits, on-appended, appended-twice}
 use Rattle.pcm_top.proofs.refine.push_answer.Goals as goal
 
 pub returns-in_ok-extend_from_slice-in-Ok : goal.returns-in_ok-extend_from_slice-in-Ok
 returns-in_ok-extend_from_slice-in-Ok c =
-    let m = c.args.asked.now.model in
-    let s = c.args.asked.now.space in
+    let m = c.args.model in
+    let s = c.args.space.now in
     let line = c.in_ok-print_line-in-Ok.field-0.items in
     let hull = subst (λ (k : CardModel). IsHull k s c.in-Ok.least) c.model_of.ensures.table c.in-Ok.ensures.hull in
     let says = c.in_ok-print_line-in-Ok.ensures (box-fits m s c.in-Ok.least hull) in
@@ -19,7 +19,7 @@ returns-in_ok-extend_from_slice-in-Ok c =
 
 pub returns-in-Err : goal.returns-in-Err
 returns-in-Err c =
-    let m = c.args.asked.now.model in
-    let s = c.args.asked.now.space in
+    let m = c.args.model in
+    let s = c.args.space.now in
     let none = subst (λ (k : CardModel). HasNone k s) c.model_of.ensures.table c.in-Err.ensures.none in
     on-appended c.extend_from_slice-in-Err.result (λ (x : List ℕ). IsAnswer m s x) c.args.text.now.items (codes "err EINVAL 22" ++ 10 ∷ []) c.extend_from_slice-in-Err.new.self.items c.args.text.now.items (inr (none, refl)) (search rules)

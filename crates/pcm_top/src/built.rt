@@ -1,0 +1,33 @@
+// The lines of `run` that are built.
+ghost use Rattle.std.specs.Prelude.{◌≡◌};
+ghost use Rattle.pcm_top.specs.OneStream.{is_built_call as is_built_call_of};
+ghost use Rattle.pcm_top.specs.Run.{is_built as is_built_of};
+
+use pcm_base::{Call, Dir, Layout, Mode};
+use pcm_line::Line;
+
+fn is_built_call(call: Call) -> bool
+    ensures { result ≡ is_built_call_of call }
+{
+    match call {
+        Call::OpenSub | Call::HwParams(_) | Call::Prepare | Call::Start | Call::DropNow => true,
+        Call::PausePush | Call::PauseRelease | Call::Suspend | Call::Resume | Call::Xrun => true,
+        Call::Write(layout, mode) => layout == Layout::Interleaved && mode == Mode::NonBlock,
+        Call::Status | Call::PageNow | Call::MoveBy(_) | Call::Irq => true,
+        _ => false,
+    }
+}
+
+/// Whether the line is one of `run` that is built: those of the one playback substream s0, with non-blocking interleaved
+/// writes, and LONG_MAX. This project's own.
+pub fn is_built(line: &Line) -> bool
+    ensures { result ≡ is_built_of line.now }
+{
+    match line {
+        Line::LongMax(_) => true,
+        Line::Card(sub, _, dir) => sub.0 == 0 && *dir == Dir::Playback,
+        Line::Event(event, _) => event.sub.0 == 0 && is_built_call(event.call),
+        Line::Save(sub, _) => sub.0 == 0,
+        _ => false,
+    }
+}

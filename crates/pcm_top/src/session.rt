@@ -1,0 +1,166 @@
+// What a script has come to, and what a line makes of it.
+ghost use Rattle.std.specs.Prelude.{◌≡◌, ◌++◌, true, OnOk, IsErrOf, option_copied};
+ghost use Rattle.std.specs.declared.option.Option.{Option};
+ghost use Rattle.pcm_io.specs.Shelf.{Files, HasShelfCause};
+ghost use Rattle.pcm_io.specs.declared.shelf.ShelfError.TheVariants.{Failed, Memory};
+ghost use Rattle.pcm_line.specs.declared.line.Line.TheVariants as line_of;
+ghost use Rattle.pcm_top.specs.declared.command.Command.TheVariants.{Run};
+ghost use Rattle.pcm_top.specs.declared.end.End.TheVariants.{Whole};
+ghost use Rattle.pcm_top.specs.CodeSession.{IsSession, IsNext, IsStopped, IsCut, Keeps};
+ghost use Rattle.pcm_top.specs.Alone.{s0};
+ghost use Rattle.pcm_top.specs.OneStream.{IsWorld, is_built_event, bytes_shown, moved_in};
+ghost use Rattle.pcm_top.specs.Run.{is_built, run_line as run_line_of};
+ghost use Rattle.pcm_top.specs.Script.{closing, has};
+ghost use Rattle.pcm_top.specs.Session.{Session as Come, begin};
+
+use crate::command::Command;
+use crate::refine::push_answer;
+use crate::save::file_to_save;
+use crate::world::World;
+use pcm_base::{Bytes, Call, Event, Name, Reply, SubId, Told};
+use pcm_io::{Shelf, ShelfError};
+use pcm_line::Line;
+use pcm_text::{end_text, push_told};
+use std::alloc::{AllocError, Global};
+
+/// The world, and the text of the answers so far.
+#[derive(Drop)]
+pub struct Session {
+    pub world: World,
+    pub text: Vec<u8>,
+}
+
+impl Session {
+    /// Before the first line.
+    pub fn new(alloc: Global) -> Session
+        ensures { (files : Option Files) → IsSession result files (begin files) }
+    {
+        Session {
+            world: World::new(alloc),
+            text: Vec::new(alloc),
+        }
+    }
+}
+
+// The bytes that the card took, where a movement tells them.
+fn taken(world: &World, call: Call) -> Option<&[u8]>
+    ensures { option_copied result ≡ bytes_shown call (moved_in world.now) }
+{
+    match call {
+        Call::MoveBy(_) => Some(world.moved()),
+        _ => None,
+    }
+}
+
+// An event, told in the line of this number.
+fn event_line(
+    number: u64,
+    event: &Event,
+    bytes: &Bytes,
+    session: &mut Session,
+) -> Result<(), AllocError>
+    requires { is_built_event event.now ≡ true }
+    ensures { (s : Come) → Keeps session.old s → OnOk result (Keeps session.new (run_line_of number (line_of.Event event.now bytes.now) s)) }
+{
+    let told = session.world.step(event, bytes.as_slice());
+    if matches!(told.reply, Reply::Memory) {
+        return Err(AllocError);
+    }
+    push_told(
+        &mut session.text,
+        number,
+        &told,
+        taken(&session.world, event.call),
+    )
+}
+
+// The frames that the card took go into a file of the shelf.
+fn save_line<F: Shelf>(
+    alloc: Global,
+    number: u64,
+    name: &Name,
+    session: &mut Session,
+    shelf: &mut F,
+) -> Result<(), ShelfError> {
+    let reply = match file_to_save(alloc, &session.world)? {
+        Ok(file) => {
+            shelf.store(name, &file)?;
+            Reply::Ok
+        }
+        Err(e) => Reply::Err(e),
+    };
+    let told = session.world.still(reply);
+    push_told(&mut session.text, number, &told, None)?;
+    Ok(())
+}
+
+// A line of `run`.
+fn run_line<F: Shelf>(
+    alloc: Global,
+    number: u64,
+    line: &Line,
+    session: &mut Session,
+    shelf: &mut F,
+) -> Result<(), ShelfError>
+    requires { is_built line.now ≡ true }
+    ensures ok { (s : Come) → IsSession session.old (F.files shelf.old) s → OnOk result (IsSession session.new (F.files shelf.new) (run_line_of number line.now s)) }
+    ensures failed { (s : Come) → IsSession session.old (F.files shelf.old) s → IsErrOf result Failed → IsStopped Run line.now s session.new.text.items (F.files shelf.new) }
+    ensures memory { (s : Come) → IsSession session.old (F.files shelf.old) s → IsErrOf result Memory → IsCut Run number line.now s (F.files shelf.new) }
+    ensures cause { HasShelfCause (F.faults shelf.old) (F.faults shelf.new) result }
+{
+    match line {
+        Line::LongMax(n) => {
+            let told = session.world.set_long(*n);
+            push_told(&mut session.text, number, &told, None)?;
+        }
+        Line::Card(sub, model, dir) => {
+            let told = session.world.declare(*sub, *model, *dir);
+            push_told(&mut session.text, number, &told, None)?;
+        }
+        Line::Event(event, bytes) => event_line(number, event, bytes, session)?,
+        Line::Save(_, name) => save_line(alloc, number, name, session, shelf)?,
+        _ => unreachable!(),
+    }
+    Ok(())
+}
+
+/// Executes a line of the command. `Failed` where its file was not stored, and then it has no text. This project's own.
+pub fn answer_line<F: Shelf>(
+    alloc: Global,
+    command: Command,
+    number: u64,
+    line: &Line,
+    session: &mut Session,
+    shelf: &mut F,
+) -> Result<(), ShelfError>
+    requires { has command line.now ≡ true }
+    ensures ok { (s : Come) → IsSession session.old (F.files shelf.old) s → OnOk result (IsNext command number line.now s session.new (F.files shelf.new)) }
+    ensures failed { (s : Come) → IsSession session.old (F.files shelf.old) s → IsErrOf result Failed → IsStopped command line.now s session.new.text.items (F.files shelf.new) }
+    ensures memory { (s : Come) → IsSession session.old (F.files shelf.old) s → IsErrOf result Memory → IsCut command number line.now s (F.files shelf.new) }
+    ensures cause { HasShelfCause (F.faults shelf.old) (F.faults shelf.new) result }
+{
+    match (command, line) {
+        (Command::Run, _) => run_line(alloc, number, line, session, shelf),
+        (Command::Refine, Line::Space(model, space)) => {
+            push_answer(alloc, &mut session.text, *model, space)?;
+            Ok(())
+        }
+        _ => unreachable!(),
+    }
+}
+
+/// Puts the lines behind the text that follow the last line of the command: in `run` one for each declared substream.
+pub fn close(alloc: Global, command: Command, session: &mut Session) -> Result<(), AllocError> {
+    match (command, &session.world.lone) {
+        (Command::Run, Some(lone)) => {
+            let line = end_text(
+                alloc,
+                SubId(0),
+                &lone.stream.page(),
+                lone.stream.moved_total(),
+            )?;
+            session.text.extend_from_slice(&line)
+        }
+        _ => Ok(()),
+    }
+}

@@ -1,0 +1,159 @@
+// The one substream that is built, and what a step does to it.
+ghost use Rattle.std.specs.Prelude.{◌≡◌, ◌≢◌, ◌<◌, ◌^◌, ◌&&◌, not, true, IfSome, drop};
+ghost use Rattle.pcm_base.specs.model.World.{World as ModelWorld, state_in, step as step_of, set_long as set_long_of, declare as declare_of, empty};
+ghost use Rattle.pcm_base.specs.declared.reply.Reply.TheVariants.{Memory};
+ghost use Rattle.pcm_base.specs.declared.state.Dir.TheVariants.{Playback};
+ghost use Rattle.pcm_base.specs.model.Events.{opens};
+ghost use Rattle.pcm_base.specs.model.Stream.{Stream};
+ghost use Rattle.pcm_base.specs.model.Words.{is_closed};
+ghost use Rattle.card_emul.specs.Limits.{limits_of};
+ghost use Rattle.pcm_stream.specs.StandsFor.{StandsFor};
+ghost use Rattle.pcm_top.specs.Alone.{s0};
+
+mod alone;
+mod events;
+mod write;
+
+use crate::world::events::event_alone;
+use card_emul::AnyCard;
+use pcm_base::{Call, Card, Dir, Errno, Event, Model, Reply, State, SubId, Told};
+use pcm_stream::Substream;
+use std::alloc::Global;
+
+/// LONG_MAX of a session that sets none.
+const FIRST_LONG_MAX: u64 = 2_147_483_647;
+
+/// The playback substream s0, and the model of its card.
+#[derive(Drop)]
+pub struct Lone {
+    pub model: Model,
+    pub stream: Substream<AnyCard>,
+}
+
+/// A world of the one substream s0, once it is declared. `before` tells how many bytes its card had taken as the last
+/// event began.
+#[derive(Drop)]
+pub struct World {
+    alloc: Global,
+    pub long_max: u64,
+    pub lone: Option<Lone>,
+    pub before: usize,
+    ghost long: { long_max < 2 ^ 36 },
+}
+
+// An answer that marks nobody awake.
+fn told(reply: Reply, state: Option<State>) -> Told
+    ensures { result ≡ record { reply = reply; state = state; woken = 0 } }
+{
+    Told {
+        reply,
+        state,
+        woken: 0,
+    }
+}
+
+impl World {
+    ghost use Rattle.pcm_top.specs.OneStream.{IsWorld, is_built_event, is_s0, shown, bytes_shown, moved_in};
+
+    /// A world without a substream. Buffers and what a card takes are kept in memory from `alloc`.
+    pub fn new(alloc: Global) -> World
+        ensures { IsWorld result empty }
+    {
+        World {
+            alloc,
+            long_max: FIRST_LONG_MAX,
+            lone: None,
+            before: 0,
+        }
+    }
+
+    /// Sets LONG_MAX of the session: EBUSY where the substream is declared, then EINVAL unless it is 15 to 2^36 - 1. This
+    /// project's own.
+    pub fn set_long(&mut self, n: u64) -> Told
+        ensures answered { result.reply ≢ Memory }
+        ensures told { (w : ModelWorld) → IsWorld self.old w → result ≡ shown (set_long_of n w) }
+        ensures world { (w : ModelWorld) → IsWorld self.old w → IsWorld self.new (set_long_of n w).world }
+    {
+        if self.lone.is_some() {
+            return told(Reply::Err(Errno::Ebusy), None);
+        }
+        if n < 15 || n >= 1 << 36 {
+            return told(Reply::Err(Errno::Einval), None);
+        }
+        self.long_max = n;
+        told(Reply::Ok, None)
+    }
+
+    /// Declares s0 with a card of this model, for playback; EBUSY where it is declared. This project's own.
+    pub fn declare(&mut self, sub: SubId, model: Model, dir: Dir) -> Told
+        requires first { is_s0 sub ≡ true }
+        requires playback { dir ≡ Playback }
+        ensures answered { result.reply ≢ Memory }
+        ensures told { (w : ModelWorld) → IsWorld self.old w → result ≡ shown (declare_of sub (limits_of model) dir w) }
+        ensures world { (w : ModelWorld) → IsWorld self.old w → IsWorld self.new (declare_of sub (limits_of model) dir w).world }
+    {
+        if let Some(lone) = &self.lone {
+            return told(Reply::Err(Errno::Ebusy), Some(lone.stream.state()));
+        }
+        let card = AnyCard::new(self.alloc, model, dir);
+        let stream = Substream::new(self.alloc, card, dir, self.long_max);
+        self.lone = Some(Lone { model, stream });
+        self.before = 0;
+        told(Reply::Ok, Some(State::Closed))
+    }
+
+    /// One step: an event on s0, with the bytes that were handed in. ENXIO where s0 is not declared, or closed and not opened
+    /// now. `Memory` leaves all as it was. This project's own.
+    pub fn step(&mut self, event: &Event, bytes: &[u8]) -> Told
+        requires built { is_built_event event.now ≡ true }
+        ensures told { (w : ModelWorld) → IsWorld self.old w → result.reply ≢ Memory → result ≡ shown (step_of w event.now bytes.now) }
+        ensures world { (w : ModelWorld) → IsWorld self.old w → result.reply ≢ Memory → IsWorld self.new (step_of w event.now bytes.now).world }
+        ensures memory { (w : ModelWorld) → IsWorld self.old w → result.reply ≡ Memory → IsWorld self.new w }
+        ensures moved { (w : ModelWorld) → IsWorld self.old w → result.reply ≢ Memory → IfSome (bytes_shown event.now.call (step_of w event.now bytes.now).bytes) (λ bytes. moved_in self.new ≡ bytes) }
+    {
+        let Some(lone) = &mut self.lone else {
+            return told(Reply::Err(Errno::Enxio), Some(State::Closed));
+        };
+        if is_shut(&lone.stream, event.call) {
+            return told(Reply::Err(Errno::Enxio), Some(State::Closed));
+        }
+        self.before = lone.stream.card().taken().len();
+        let reply = event_alone(&mut lone.stream, event.call, bytes);
+        told(reply, Some(lone.stream.state()))
+    }
+
+    /// An answer that leaves the world as it is, with the state of s0.
+    pub fn still(&self, reply: Reply) -> Told
+        ensures same { result.reply ≡ reply }
+        ensures told { (w : ModelWorld) → IsWorld self.now w → result ≡ record { reply = reply; state = Some (state_in s0 w); woken = 0 } }
+    {
+        match &self.lone {
+            None => told(reply, Some(State::Closed)),
+            Some(lone) => told(reply, Some(lone.stream.state())),
+        }
+    }
+
+    /// The bytes that the card took in the last event.
+    pub fn moved(&self) -> &[u8]
+        ensures { result.now ≡ moved_in self.now }
+    {
+        match &self.lone {
+            None => &[],
+            Some(lone) => from(lone.stream.card().taken(), self.before),
+        }
+    }
+}
+
+// The bytes from a place on, none where there are fewer.
+fn from(bytes: &[u8], start: usize) -> &[u8]
+    ensures { result.now ≡ drop start bytes.now }
+{
+    &bytes[start.min(bytes.len())..]
+}
+
+// A closed substream, which every event but its opening refuses.
+fn is_shut(stream: &Substream<AnyCard>, call: Call) -> bool
+    ensures { (s : Stream) → StandsFor stream.now s → result ≡ (is_closed s.state && not (opens call)) }
+{
+    stream.state() == State::Closed && !matches!(call, Call::OpenSub)
+}

@@ -1,0 +1,135 @@
+// What each event does to a substream that stands alone in its group (the ioctls of `pcm_native.c`).
+ghost use Rattle.std.specs.Prelude.{◌≡◌, ◌≢◌, true, false, []};
+ghost use Rattle.pcm_base.specs.declared.act.Act.{Act as AnAct};
+ghost use Rattle.pcm_base.specs.declared.act.Act.TheVariants as act;
+ghost use Rattle.pcm_base.specs.declared.call.Call.TheVariants as call;
+ghost use Rattle.pcm_base.specs.declared.ids.ClientId.{ClientId};
+ghost use Rattle.pcm_base.specs.declared.reply.Reply.TheVariants.{Asleep, Memory};
+ghost use Rattle.pcm_base.specs.model.Events.{event as event_of};
+ghost use Rattle.pcm_base.specs.model.Program.{act_alone as program_of};
+ghost use Rattle.pcm_base.specs.model.Sound.{is_stop};
+ghost use Rattle.pcm_base.specs.model.Stream.{Stream};
+ghost use Rattle.pcm_stream.specs.StandsFor.{StandsFor};
+ghost use Rattle.pcm_top.specs.Alone.{IsEnd, ended};
+ghost use Rattle.pcm_top.specs.OneStream.{is_built_call};
+
+use crate::world::alone::{act_alone, refresh};
+use crate::world::write::write;
+use card_emul::AnyCard;
+use pcm_base::{Act, Call, CallKind, Config, Errno, Reply, State};
+use pcm_stream::{DmaRefusal, HwRefusal, Substream};
+use state_table::permit;
+
+fn answer(done: Result<(), Errno>) -> Reply {
+    match done {
+        Ok(()) => Reply::Ok,
+        Err(e) => Reply::Err(e),
+    }
+}
+
+// An act alone.
+fn made(stream: &mut Substream<AnyCard>, act: Act) -> Reply
+    requires { is_stop act ≡ true }
+    ensures { (s : Stream) → StandsFor stream.old s → IsEnd (program_of act s) result stream.new }
+{
+    answer(act_alone(stream, act))
+}
+
+// An opening of a closed substream.
+fn open(stream: &mut Substream<AnyCard>) -> Reply
+    ensures { (c : ClientId) (s : Stream) → StandsFor stream.old s → IsEnd (event_of call.OpenSub c false [] s) result stream.new }
+{
+    answer(stream.open_sub())
+}
+
+fn hw_params(stream: &mut Substream<AnyCard>, config: &Config) -> Reply
+    ensures ok { (c : ClientId) (s : Stream) → StandsFor stream.old s → s.sleepers ≡ [] → result ≢ Memory → IsEnd (event_of (call.HwParams config.now) c false [] s) result stream.new }
+    ensures memory { (s : Stream) → StandsFor stream.old s → result ≡ Memory → StandsFor stream.new s }
+{
+    match stream.hw_params(config, false) {
+        Ok(()) => Reply::Ok,
+        Err(HwRefusal::Errno(e)) => Reply::Err(e),
+        Err(HwRefusal::Memory) => Reply::Memory,
+    }
+}
+
+// A paused or suspended substream is stopped first.
+fn prepare(stream: &mut Substream<AnyCard>) -> Reply
+    ensures { (c : ClientId) (s : Stream) → StandsFor stream.old s → IsEnd (event_of call.Prepare c false [] s) result stream.new }
+{
+    let stop_first = matches!(stream.state(), State::Paused | State::Suspended);
+    made(stream, Act::Prepare { stop_first })
+}
+
+fn drop_now(stream: &mut Substream<AnyCard>) -> Reply
+    ensures { (c : ClientId) (s : Stream) → StandsFor stream.old s → IsEnd (event_of call.DropNow c false [] s) result stream.new }
+{
+    match permit(CallKind::DropNow, stream.state(), stream.dir()) {
+        Ok(()) => made(stream, Act::Stop(State::Setup)),
+        Err(e) => Reply::Err(e),
+    }
+}
+
+fn xrun(stream: &mut Substream<AnyCard>) -> Reply
+    ensures { (c : ClientId) (s : Stream) → StandsFor stream.old s → IsEnd (event_of call.Xrun c false [] s) result stream.new }
+{
+    match permit(CallKind::Xrun, stream.state(), stream.dir()) {
+        Ok(()) if stream.state() == State::Running => made(stream, Act::Stop(State::Xrun)),
+        Ok(()) => Reply::Ok,
+        Err(e) => Reply::Err(e),
+    }
+}
+
+fn status(stream: &mut Substream<AnyCard>) -> Reply
+    ensures { (c : ClientId) (s : Stream) → StandsFor stream.old s → IsEnd (event_of call.Status c false [] s) result stream.new }
+{
+    refresh(stream);
+    Reply::Ptrs(stream.page())
+}
+
+fn irq(stream: &mut Substream<AnyCard>) -> Reply
+    ensures { (c : ClientId) (s : Stream) → StandsFor stream.old s → IsEnd (event_of call.Irq c false [] s) result stream.new }
+{
+    refresh(stream);
+    Reply::Ok
+}
+
+fn move_by(stream: &mut Substream<AnyCard>, n: u64) -> Reply
+    ensures ok { (c : ClientId) (s : Stream) → StandsFor stream.old s → result ≢ Memory → IsEnd (event_of (call.MoveBy n) c false [] s) result stream.new }
+    ensures memory { (s : Stream) → StandsFor stream.old s → result ≡ Memory → StandsFor stream.new s }
+{
+    match stream.dma(n) {
+        Ok(moved) => Reply::Moved(moved),
+        Err(DmaRefusal::Idle) => Reply::Idle,
+        Err(DmaRefusal::Late(room)) => Reply::Late(room),
+        Err(DmaRefusal::Limit(total)) => Reply::Limit(total),
+        Err(DmaRefusal::Memory) => Reply::Memory,
+    }
+}
+
+/// What an event does to the substream, on which nobody waits. `Memory` leaves all as it was.
+pub fn event_alone(stream: &mut Substream<AnyCard>, call: Call, bytes: &[u8]) -> Reply
+    requires { is_built_call call ≡ true }
+    ensures done { (c : ClientId) (s : Stream) → StandsFor stream.old s → s.sleepers ≡ [] → result ≢ Memory → IsEnd (event_of call c false bytes.now s) result stream.new }
+    ensures memory { (s : Stream) → StandsFor stream.old s → result ≡ Memory → StandsFor stream.new s }
+    ensures awake { result ≢ Asleep }
+{
+    match call {
+        Call::OpenSub => open(stream),
+        Call::HwParams(config) => hw_params(stream, &config),
+        Call::Prepare => prepare(stream),
+        Call::Start => made(stream, Act::Start),
+        Call::DropNow => drop_now(stream),
+        Call::PausePush => made(stream, Act::Pause),
+        Call::PauseRelease => made(stream, Act::Release),
+        Call::Suspend => made(stream, Act::Suspend),
+        Call::Resume => made(stream, Act::Resume),
+        Call::Xrun => xrun(stream),
+        Call::Write(_, _) => write(stream, bytes),
+        Call::Status => status(stream),
+        Call::PageNow => Reply::Ptrs(stream.page()),
+        Call::MoveBy(n) => move_by(stream, n),
+        Call::Irq => irq(stream),
+        _ => unreachable!(),
+    }
+}
