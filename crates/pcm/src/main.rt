@@ -1,14 +1,16 @@
-// Runs the command of the words over standard input and output, and tells on standard error why it ended if not well.
+// Runs the command of the words over standard input, standard output and the files of the current folder, and tells on
+// standard error why it ended if not well.
 #![tactic(auto)]
 
-use pcm_io::{StdSink, StdSource};
+use pcm_io::{FolderShelf, StdSink, StdSource};
 use pcm_text::{Status, fault_text};
 use pcm_top::pcm_main;
+use std::fs::Files;
 use std::process::ExitCode;
 use std::rt::Env;
 use std::{env, io};
 
-fn status_of_run(rt: &(impl Env + Input + Print + AllocGlobal)) -> Status {
+fn status_of_run(rt: &(impl Env + Input + Print + Files + AllocGlobal)) -> Status {
     let Ok(all) = env::args(rt) else {
         return Status::Usage;
     };
@@ -20,7 +22,8 @@ fn status_of_run(rt: &(impl Env + Input + Print + AllocGlobal)) -> Status {
     }
     let mut source = StdSource::new(rt.reader());
     let mut out = StdSink::new(io::writer(rt));
-    pcm_main(rt.alloc(), &words, &mut source, &mut out)
+    let mut shelf = FolderShelf::new(rt, rt.alloc(), ".");
+    pcm_main(rt.alloc(), &words, &mut source, &mut out, &mut shelf)
 }
 
 fn main(rt: HostRuntime) -> ExitCode {
