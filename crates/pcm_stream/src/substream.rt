@@ -195,6 +195,7 @@ impl<C: Card> Substream<C> {
         ensures refused { (s : Stream) → StandsFor self.old s → (e : ErrnoOf) → hw_refusal busy s ≡ Some e → (result ≡ Err (HwRefusal.Errno e)) × StandsFor self.new s }
         ensures einval { (s : Stream) → StandsFor self.old s → hw_refusal busy s ≡ None → accepts s.model s.long_max config.now ≡ false
             → (result ≡ Err (HwRefusal.Errno Errno.Einval)) × StandsFor self.new (freed s) }
+        ensures granted { (s : Stream) → StandsFor self.old s → hw_refusal busy s ≡ None → accepts s.model s.long_max config.now ≡ true → IfErr result (λ e. e ≡ HwRefusal.Memory) }
         ensures memory { (s : Stream) → StandsFor self.old s → result ≡ Err HwRefusal.Memory
             → (hw_refusal busy s ≡ None) × (accepts s.model s.long_max config.now ≡ true) × StandsFor self.new s }
         ensures faults { faults_of self.new ≡ faults_of self.old }
