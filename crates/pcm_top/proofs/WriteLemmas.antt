@@ -1,9 +1,11 @@
 -- A write of a stream that stands alone in its group, turn by turn.
 use Rattle.std.proofs.Common.{ℕ, zero, suc, ◌≡◌, ◌+◌, ◌-◌, ◌/◌, ◌%◌, ◌≤◌, ◌<◌, Bool, true, false, ◌&&◌, nat_eq, nat_le, List, [], ◌∷◌, ◌++◌, length, take, drop, min, refl, sym, ap, ◌∙◌, subst, arith, length-take, length-drop}
 use Rattle.std.proofs.Math.Path.{ap₂}
+use Rattle.std.proofs.Math.ListN.{drop_of_length-le}
 use Rattle.std.proofs.Math.Seq.{take-add}
 use Rattle.std.proofs.lemmas.Bool.Decides.{nat_tests}
 use Rattle.std.specs.Prelude.{IsSome}
+use Rattle.std.specs.Option.{ForSome, option_map}
 use Rattle.std.specs.declared.option.Option.{Option}
 use Rattle.std.specs.declared.option.Option.TheVariants.{Some, None}
 use Rattle.pcm_base.specs.declared.act.Act.TheVariants as act
@@ -11,22 +13,26 @@ use Rattle.pcm_base.specs.declared.act.Outcome.{Outcome}
 use Rattle.pcm_base.specs.declared.act.Outcome.TheVariants as outcome
 use Rattle.pcm_base.specs.declared.act.Vote.{Vote}
 use Rattle.pcm_base.specs.declared.act.Vote.TheVariants as vote
+use Rattle.pcm_base.specs.declared.call.Layout.TheVariants as layout
 use Rattle.pcm_base.specs.declared.call.Mode.TheVariants as mode
 use Rattle.pcm_base.specs.declared.card.Card.{Ghosts}
 use Rattle.pcm_base.specs.declared.config.Config.{Config}
+use Rattle.pcm_base.specs.declared.config.Shape.{Shape}
 use Rattle.pcm_base.specs.declared.ids.ClientId.{ClientId}
 use Rattle.pcm_base.specs.declared.reply.Page.{Page}
+use Rattle.pcm_base.specs.declared.reply.Reply.{Reply}
 use Rattle.pcm_base.specs.declared.reply.Reply.TheVariants as reply
 use Rattle.pcm_base.specs.declared.sleeper.Xfer.{Xfer}
 use Rattle.pcm_base.specs.declared.state.Errno.{Errno}
 use Rattle.pcm_base.specs.declared.state.Errno.TheVariants as errno
+use Rattle.pcm_base.specs.Shape.{count_of}
 use Rattle.pcm_base.specs.model.Acts.{after}
 use Rattle.pcm_base.specs.model.Events.{page}
 use Rattle.pcm_base.specs.model.Frame.{Frame, frames_of}
 use Rattle.pcm_base.specs.model.Program.{Program, Makes}
 use Rattle.pcm_base.specs.model.Sound.{Sound}
 use Rattle.pcm_base.specs.model.Stream.{Stream, Setup, avail, shown}
-use Rattle.pcm_base.specs.model.Transfer.{after_start, frames_or, is_filled, put_next, write_on, write_plain}
+use Rattle.pcm_base.specs.model.Transfer.{after_start, frames_by, frames_in, frames_or, is_filled, put_next, write_on, write_plain}
 use Rattle.pcm_base.specs.model.Words.{is_prepared}
 use Rattle.pcm_laws.specs.Turns.{turn}
 use Rattle.pcm_laws.proofs.Leaves.{IsSameBesideActs-after}
@@ -34,9 +40,11 @@ use Rattle.pcm_laws.proofs.ShownPointers.{slot-shown}
 use Rattle.pcm_laws.proofs.Sizes.{sizes}
 use Rattle.pcm_laws.proofs.Turns.{drop-split, write_on-quiet_turn, write_on-started, write_on-starting_turn, write_on-stuck, write_on-whole, write_plain-turn}
 use Rattle.pcm_stream.proofs.StreamLemmas.{configured, page-configured}
-use Rattle.pcm_stream.specs.StandsFor.{StandsFor}
+use Rattle.pcm_stream.proofs.RunsLemmas.{length-frames_of}
+use Rattle.pcm_stream.specs.StandsFor.{StandsFor, shape_in}
+use Rattle.pcm_stream.specs.declared.runtime.Runtime.{Runtime}
 use Rattle.pcm_stream.specs.declared.substream.Substream.{Substream}
-use Rattle.pcm_top.specs.Alone.{Ended, ended, error_by, outcome_by, vote_alone, after_alone, error_alone}
+use Rattle.pcm_top.specs.Alone.{Ended, ended, IsEnd, error_by, outcome_by, vote_alone, after_alone, error_alone}
 
 -- the turn, from what clients see
 pub turn-shown : (c : Config) (s : Stream) (p : Page) (rest buffer fewer count : ℕ) → s.setup.config ≡ Some c → Sound s → p ≡ page s → s.setup.buffer ≡ buffer
@@ -46,6 +54,10 @@ turn-shown c s p rest buffer fewer count e h q b f n =
     let most : fewer ≡ min rest (avail s) = f ∙ ap (λ (r : Page). min rest r.avail) k in
     let slot : p.appl % buffer ≡ s.at.appl % s.setup.buffer = ap (λ (r : Page). r.appl % buffer) k ∙ ap (λ (m : ℕ). shown s s.at.appl % m) (sym b) ∙ slot-shown c s s.at.appl (configured c s e h) in
     n ∙ ap₂ (λ (i j : ℕ). min i j) most (ap₂ (λ (i j : ℕ). i - j) (sym b) slot)
+
+-- a configured stream has room
+pub room_in : (c : Config) (s : Stream) → s.setup.config ≡ Some c → Sound s → 0 < s.setup.buffer
+room_in c s e h = omega (arith, (sizes c s (configured c s e h).shaped).least)
 
 -- ---- what a start answers
 
@@ -163,3 +175,171 @@ ended-not_started c x ws m n t e h q k =
     let u : Stream = turned ws m n t in
     ap ended (write_on-starts c x ws m n t h q)
     ∙ after_start-failed c x (take m ws ++ take n (drop m ws)) (drop n (drop m ws)) (after_alone act.Start u) (vote_alone act.Start u) e k
+
+-- ---- where a write ends
+
+-- the transfer of a non-blocking write of so many interleaved frames
+abbrev pub nonblocking : ℕ → Xfer
+nonblocking n = record { writing = true; layout = layout.Interleaved; mode = mode.NonBlock; rest = n; moved = 0 }
+
+length-moved : (ws : List Frame) (m : ℕ) → m ≤ length ws → length (take m ws) ≡ m
+length-moved ws m h = length-take m ws ∙ omega (arith, h)
+
+-- an error after the first m frames
+error_after : (ws : List Frame) (m : ℕ) (e : Errno) → m ≤ length ws → frames_or (0 + length (take m ws)) e ≡ frames_or m e
+error_after ws m e h =
+    let k : 0 + length (take m ws) ≡ m = omega (arith, length-moved ws m h) in
+    ap (λ (i : ℕ). frames_or i e) k
+
+-- what a write answers that stops after the first m frames
+abbrev pub stopped_after : ℕ → Errno → List Frame → Stream → Ended
+stopped_after m e ws t = record { reply = frames_or m e; frames = take m ws; stream = t }
+
+ended-stuck : (c : ClientId) (ws : List Frame) (rest m : ℕ) (t : Stream) → m < length ws → avail t ≡ 0
+    → ended (write_on c (nonblocking rest) (take m ws) (drop m ws) t) ≡ stopped_after m errno.Eagain ws t
+ended-stuck c ws rest m t h full =
+    let some : 0 < length (drop m ws) = omega (arith, length-drop m ws, h) in
+    ap ended (write_on-stuck c (nonblocking rest) (take m ws) (drop m ws) t full some)
+    ∙ ap (λ (r : Reply). let q : Ended = record { reply = r; frames = take m ws; stream = t } in q) (error_after ws m errno.Eagain (omega (arith, h)))
+
+ended-whole : (c : ClientId) (ws : List Frame) (rest m : ℕ) (t : Stream) → length ws ≡ m
+    → ended (write_on c (nonblocking rest) (take m ws) (drop m ws) t) ≡ record { reply = reply.Frames m; frames = take m ws; stream = t }
+ended-whole c ws rest m t h =
+    let size : 0 + length (take m ws) ≡ m = omega (arith, length-moved ws m (omega (arith, h))) in
+    ap (λ (gs : List Frame). ended (write_on c (nonblocking rest) (take m ws) gs t)) (none ws m h)
+    ∙ ap ended (write_on-whole c (nonblocking rest) (take m ws) t)
+    ∙ ap (λ (i : ℕ). let q : Ended = record { reply = reply.Frames i; frames = take m ws; stream = t } in q) size
+  where
+    none : (gs : List Frame) (i : ℕ) → length gs ≡ i → drop i gs ≡ []
+    none gs i e = drop_of_length-le gs (omega (arith, e))
+
+-- the write is the rest of that write after the first m frames
+pub record WritesOn {C : Type 0} {g : Ghosts C} (now : Substream C g) (c : ClientId) (ws : List Frame) (s : Stream) (frames m : ℕ) : Type 0 where
+  pub stream : Stream
+  pub config : Config
+  pub configured : stream.setup.config ≡ Some config
+  pub setup : stream.setup ≡ s.setup
+  pub size : length ws ≡ frames
+  pub stands : StandsFor now stream
+  pub ends : ended (write_on c (nonblocking frames) [] ws s) ≡ ended (write_on c (nonblocking frames) (take m ws) (drop m ws) stream)
+
+-- the runtime that has these sizes
+record HasSizes (o : Option Runtime) (shape : Shape) : Type 0 where
+  runtime : Runtime
+  is : o ≡ Some runtime
+  sizes : runtime.shape ≡ shape
+
+runtime_in : (o : Option Runtime) (shape : Shape) → option_map (λ r. r.shape) o ≡ Some shape → HasSizes o shape
+runtime_in (Some r) shape h = record { runtime = r; is = refl; sizes = cc }
+runtime_in None shape h = absurd (cc)
+
+-- before the first turn
+pub WritesOn-begins : {C : Type 0} {g : Ghosts C} (now : Substream C g) (c : ClientId) (bytes : List ℕ) (s : Stream) (frames : ℕ) (shape : Shape) → StandsFor now s
+    → shape_in now ≡ Some shape → frames ≡ count_of shape bytes → WritesOn now c (frames_in s bytes) s frames 0
+WritesOn-begins now c bytes s frames shape h e n =
+    let r = runtime_in now.runtime shape e in
+    let runs = h.shows.runs_for r.runtime r.is in
+    let width : s.setup.frame_bytes ≡ shape.frame_bytes = runs.frame_bytes ∙ ap (λ (k : Shape). k.frame_bytes) r.sizes in
+    record {
+      stream = s;
+      config = r.runtime.config;
+      configured = runs.config;
+      setup = refl;
+      size = length-frames_of (length bytes / s.setup.frame_bytes) s.setup.frame_bytes bytes ∙ ap (λ (k : ℕ). length bytes / k) width ∙ sym n;
+      stands = h;
+      ends = refl;
+    }
+
+pub WritesOn-first : {C : Type 0} {g : Ghosts C} (now : Substream C g) (c : ClientId) (bytes : List ℕ) (s : Stream) (frames : ℕ) → StandsFor now s → IsSome (shape_in now)
+    → ForSome (shape_in now) (λ shape. frames ≡ count_of shape bytes) → WritesOn now c (frames_in s bytes) s frames 0
+WritesOn-first now c bytes s frames h i n = by (shape_in now) refl i
+  where
+    by : (o : Option Shape) → shape_in now ≡ o → IsSome o → WritesOn now c (frames_in s bytes) s frames 0
+    by (Some shape) e k = WritesOn-begins now c bytes s frames shape h e (n shape e)
+    by None e k = absurd (cc)
+
+-- the turn of n frames, where more than none can move
+pub IsTurn-next : {C : Type 0} {g : Ghosts C} (now : Substream C g) (c : ClientId) (ws : List Frame) (s : Stream) (frames m n : ℕ) (h : WritesOn now c ws s frames m)
+    → 0 < n → n ≡ turn (frames - m) h.stream → IsTurn ws m n h.stream
+IsTurn-next now c ws s frames m n h p e = record {
+  buffer = room_in h.config h.stream h.configured h.stands.sound;
+  more = p;
+  count = e ∙ ap (λ (i : ℕ). turn (i - m) h.stream) (sym h.size);
+}
+
+-- the substream after the frames of this turn are put
+pub turned-stands : {C : Type 0} {g : Ghosts C} (now : Substream C g) (bytes : List ℕ) (s t : Stream) (m n : ℕ) → t.setup ≡ s.setup
+    → StandsFor now (put_next (take n (drop m (frames_by layout.Interleaved t bytes))) t) → StandsFor now (turned (frames_in s bytes) m n t)
+turned-stands now bytes s t m n e h =
+    let same : frames_in t bytes ≡ frames_in s bytes = ap (λ (u : Setup). frames_of (length bytes / u.frame_bytes) u.frame_bytes bytes) e in
+    subst (λ (fs : List Frame). StandsFor now (put_next (take n (drop m fs)) t)) same h
+
+pub WritesOn-turned : {C : Type 0} {g : Ghosts C} (was now : Substream C g) (c : ClientId) (ws : List Frame) (s : Stream) (frames m n : ℕ) (h : WritesOn was c ws s frames m)
+    → IsTurn ws m n h.stream → (is_prepared h.stream.state && is_filled (turned ws m n h.stream) 0) ≡ false → StandsFor now (turned ws m n h.stream)
+    → WritesOn now c ws s frames (m + n)
+WritesOn-turned was now c ws s frames m n h t q k = record {
+  stream = turned ws m n h.stream;
+  config = h.config;
+  configured = h.configured;
+  setup = h.setup;
+  size = h.size;
+  stands = k;
+  ends = h.ends ∙ ap ended (write_on-goes_on c (nonblocking frames) ws m n h.stream t q);
+}
+
+pub WritesOn-started : {C : Type 0} {g : Ghosts C} (was now : Substream C g) (c : ClientId) (ws : List Frame) (s : Stream) (frames m n : ℕ) (h : WritesOn was c ws s frames m)
+    → IsTurn ws m n h.stream → (is_prepared h.stream.state && is_filled (turned ws m n h.stream) 0) ≡ true → error_alone act.Start (turned ws m n h.stream) ≡ None
+    → StandsFor now (after_alone act.Start (turned ws m n h.stream)) → WritesOn now c ws s frames (m + n)
+WritesOn-started was now c ws s frames m n h t q e k =
+    let u : Stream = turned ws m n h.stream in
+    let same : (after_alone act.Start u).setup ≡ h.stream.setup = (IsSameBesideActs-after act.Start (vote_alone act.Start u) (outcome_by (vote_alone act.Start u)) u).setup in
+    record {
+      stream = after_alone act.Start u;
+      config = h.config;
+      configured = ap (λ (r : Setup). r.config) same ∙ h.configured;
+      setup = same ∙ h.setup;
+      size = h.size;
+      stands = k;
+      ends = h.ends ∙ ended-started c (nonblocking frames) ws m n h.stream t q e;
+    }
+
+-- the answer and the stream of a program that ends so
+IsEnd-as : {C : Type 0} {g : Ghosts C} (now : Substream C g) (p : Program) (r : Reply) (q : Ended) → ended p ≡ q → r ≡ q.reply → StandsFor now q.stream → IsEnd p r now
+IsEnd-as now p r q e a h = record {
+  answers = a ∙ sym (ap (λ (u : Ended). u.reply) e);
+  stands = subst (λ (t : Stream). StandsFor now t) (sym (ap (λ (u : Ended). u.stream) e)) h;
+}
+
+-- the same, where the transfer is known
+IsEnd-of : {C : Type 0} {g : Ghosts C} (now : Substream C g) (c : ClientId) (x y : Xfer) (ws : List Frame) (s : Stream) (r : Reply) → x ≡ y
+    → IsEnd (write_on c y [] ws s) r now → IsEnd (write_on c x [] ws s) r now
+IsEnd-of now c x y ws s r e h = subst (λ (z : Xfer). IsEnd (write_on c z [] ws s) r now) (sym e) h
+
+pub IsEnd-not_started : {C : Type 0} {g : Ghosts C} (was now : Substream C g) (c : ClientId) (x : Xfer) (ws : List Frame) (s : Stream) (frames m n : ℕ) (h : WritesOn was c ws s frames m)
+    (e : Errno) (r : Reply) → x ≡ nonblocking frames → IsTurn ws m n h.stream → (is_prepared h.stream.state && is_filled (turned ws m n h.stream) 0) ≡ true
+    → error_alone act.Start (turned ws m n h.stream) ≡ Some e → StandsFor now (after_alone act.Start (turned ws m n h.stream)) → r ≡ frames_or (m + n) e
+    → IsEnd (write_on c x [] ws s) r now
+IsEnd-not_started was now c x ws s frames m n h e r f t q k d a =
+    let u : Stream = turned ws m n h.stream in
+    let gs : List Frame = take m ws ++ take n (drop m ws) in
+    let size : 0 + length gs ≡ m + n = ap (λ (fs : List Frame). 0 + length fs) (sym (take-add m n ws)) ∙ omega (arith, length-moved ws (m + n) (omega (arith, room-turn ws m n h.stream t, t.more))) in
+    IsEnd-of now c x (nonblocking frames) ws s r f
+    (IsEnd-as now (write_on c (nonblocking frames) [] ws s) r (record { reply = frames_or (0 + length gs) e; frames = gs; stream = after_alone act.Start u })
+    (h.ends ∙ ended-not_started c (nonblocking frames) ws m n h.stream e t q k) (a ∙ ap (λ (i : ℕ). frames_or i e) (sym size)) d)
+
+pub IsEnd-stuck : {C : Type 0} {g : Ghosts C} (now : Substream C g) (c : ClientId) (x : Xfer) (ws : List Frame) (s : Stream) (frames m : ℕ) (h : WritesOn now c ws s frames m)
+    (r : Reply) → x ≡ nonblocking frames → m < frames → 0 ≡ turn (frames - m) h.stream → r ≡ frames_or m errno.Eagain → IsEnd (write_on c x [] ws s) r now
+IsEnd-stuck now c x ws s frames m h r f more none a =
+    let t : Stream = h.stream in
+    let buffer : 0 < t.setup.buffer = room_in h.config t h.configured h.stands.sound in
+    let full : avail t ≡ 0 = omega (arith, none, buffer, more) in
+    IsEnd-of now c x (nonblocking frames) ws s r f
+    (IsEnd-as now (write_on c (nonblocking frames) [] ws s) r (stopped_after m errno.Eagain ws t)
+    (h.ends ∙ ended-stuck c ws frames m t (omega (arith, h.size, more)) full) a h.stands)
+
+pub IsEnd-whole : {C : Type 0} {g : Ghosts C} (now : Substream C g) (c : ClientId) (x : Xfer) (ws : List Frame) (s : Stream) (frames m : ℕ) (h : WritesOn now c ws s frames m)
+    (r : Reply) → x ≡ nonblocking frames → m ≡ frames → r ≡ reply.Frames m → IsEnd (write_on c x [] ws s) r now
+IsEnd-whole now c x ws s frames m h r f all a =
+    IsEnd-of now c x (nonblocking frames) ws s r f
+    (IsEnd-as now (write_on c (nonblocking frames) [] ws s) r (record { reply = reply.Frames m; frames = take m ws; stream = h.stream })
+    (h.ends ∙ ended-whole c ws frames m h.stream (h.size ∙ sym all)) a h.stands)
