@@ -1,18 +1,21 @@
 -- A write of a stream that stands alone in its group, turn by turn.
-use Rattle.std.proofs.Common.{ℕ, zero, suc, ◌≡◌, ◌+◌, ◌-◌, ◌/◌, ◌%◌, ◌≤◌, ◌<◌, Bool, true, false, ◌&&◌, nat_eq, nat_le, List, [], ◌∷◌, ◌++◌, length, take, drop, min, refl, sym, ap, ◌∙◌, subst, arith, length-take, length-drop}
+use Rattle.std.proofs.Common.{ℕ, zero, suc, ◌⊎◌, inl, inr, ◌≡◌, ◌≢◌, ◌+◌, ◌-◌, ◌/◌, ◌%◌, ◌≤◌, ◌<◌, Bool, true, false, ◌&&◌, nat_eq, nat_le, List, [], ◌∷◌, ◌++◌, length, take, drop, min, refl, sym, ap, ◌∙◌, subst, arith, length-take, length-drop}
 use Rattle.std.proofs.Math.Path.{ap₂}
 use Rattle.std.proofs.Math.ListN.{drop_of_length-le}
 use Rattle.std.proofs.Math.Seq.{take-add}
 use Rattle.std.proofs.lemmas.Bool.Decides.{nat_tests}
-use Rattle.std.specs.Prelude.{IsSome}
+use Rattle.std.specs.Prelude.{IsSome, Result, Ok, Err, if◌then◌else◌}
 use Rattle.std.specs.Option.{ForSome, option_map}
 use Rattle.std.specs.declared.option.Option.{Option}
 use Rattle.std.specs.declared.option.Option.TheVariants.{Some, None}
 use Rattle.pcm_base.specs.declared.act.Act.TheVariants as act
 use Rattle.pcm_base.specs.declared.act.Outcome.{Outcome}
 use Rattle.pcm_base.specs.declared.act.Outcome.TheVariants as outcome
+use Rattle.pcm_base.specs.declared.act.Updated.{Updated}
+use Rattle.pcm_base.specs.declared.act.Updated.TheVariants as updated
 use Rattle.pcm_base.specs.declared.act.Vote.{Vote}
 use Rattle.pcm_base.specs.declared.act.Vote.TheVariants as vote
+use Rattle.pcm_base.specs.declared.call.CallKind.TheVariants as kind
 use Rattle.pcm_base.specs.declared.call.Layout.TheVariants as layout
 use Rattle.pcm_base.specs.declared.call.Mode.TheVariants as mode
 use Rattle.pcm_base.specs.declared.card.Card.{Ghosts}
@@ -26,13 +29,15 @@ use Rattle.pcm_base.specs.declared.sleeper.Xfer.{Xfer}
 use Rattle.pcm_base.specs.declared.state.Errno.{Errno}
 use Rattle.pcm_base.specs.declared.state.Errno.TheVariants as errno
 use Rattle.pcm_base.specs.Shape.{count_of}
-use Rattle.pcm_base.specs.model.Acts.{after}
+use Rattle.pcm_base.specs.model.Acts.{after, table}
 use Rattle.pcm_base.specs.model.Events.{page}
 use Rattle.pcm_base.specs.model.Frame.{Frame, frames_of}
-use Rattle.pcm_base.specs.model.Program.{Program, Makes}
+use Rattle.pcm_base.specs.model.Program.{Program, Makes, after_found, or_epipe, says, unless, updated_or_epipe}
 use Rattle.pcm_base.specs.model.Sound.{Sound}
 use Rattle.pcm_base.specs.model.Stream.{Stream, Setup, avail, shown}
-use Rattle.pcm_base.specs.model.Transfer.{after_start, frames_by, frames_in, frames_or, is_filled, put_next, write_on, write_plain}
+use Rattle.pcm_base.specs.model.Transfer.{after_start, frames_by, frames_in, frames_or, is_filled, is_whole, misfit, put_next, write, write_on, write_plain}
+use Rattle.pcm_base.specs.model.Permit.{permit}
+use Rattle.pcm_base.specs.model.Update.{Refreshed, found, moved_up, settled, update}
 use Rattle.pcm_base.specs.model.Words.{is_prepared}
 use Rattle.pcm_laws.specs.Turns.{turn}
 use Rattle.pcm_laws.proofs.Leaves.{IsSameBesideActs-after}
@@ -40,11 +45,12 @@ use Rattle.pcm_laws.proofs.ShownPointers.{slot-shown}
 use Rattle.pcm_laws.proofs.Sizes.{sizes}
 use Rattle.pcm_laws.proofs.Turns.{drop-split, write_on-quiet_turn, write_on-started, write_on-starting_turn, write_on-stuck, write_on-whole, write_plain-turn}
 use Rattle.pcm_stream.proofs.StreamLemmas.{configured, page-configured}
+use Rattle.state_table.specs.Cases.{answer_of}
 use Rattle.pcm_stream.proofs.RunsLemmas.{length-frames_of}
 use Rattle.pcm_stream.specs.StandsFor.{StandsFor, shape_in}
 use Rattle.pcm_stream.specs.declared.runtime.Runtime.{Runtime}
 use Rattle.pcm_stream.specs.declared.substream.Substream.{Substream}
-use Rattle.pcm_top.specs.Alone.{Ended, ended, IsEnd, error_by, outcome_by, vote_alone, after_alone, error_alone}
+use Rattle.pcm_top.specs.Alone.{Ended, ended, IsEnd, refreshed, stopped_if, error_by, outcome_by, vote_alone, after_alone, error_alone}
 
 -- the turn, from what clients see
 pub turn-shown : (c : Config) (s : Stream) (p : Page) (rest buffer fewer count : ℕ) → s.setup.config ≡ Some c → Sound s → p ≡ page s → s.setup.buffer ≡ buffer
@@ -343,3 +349,85 @@ IsEnd-whole now c x ws s frames m h r f all a =
     IsEnd-of now c x (nonblocking frames) ws s r f
     (IsEnd-as now (write_on c (nonblocking frames) [] ws s) r (record { reply = reply.Frames m; frames = take m ws; stream = h.stream })
     (h.ends ∙ ended-whole c ws frames m h.stream (h.size ∙ sym all)) a h.stands)
+
+-- ---- the checks before a write
+
+-- a write that no check refuses, of some frames
+pub record IsAllowedWrite (bytes : List ℕ) (s : Stream) (n : ℕ) : Type 0 where
+  pub fits : misfit s true layout.Interleaved (is_whole s bytes) ≡ None
+  pub count : n ≡ length bytes / s.setup.frame_bytes
+  pub some : n ≢ 0
+  pub permitted : table kind.Write s ≡ None
+
+allowed_answer : (o : Option Errno) → Ok tt ≡ answer_of o → o ≡ None
+allowed_answer None h = refl
+allowed_answer (Some e) h = absurd (cc)
+
+pub table-allowed : (s : Stream) → Ok tt ≡ answer_of (table kind.Write s) → table kind.Write s ≡ None
+table-allowed s h = allowed_answer (table kind.Write s) h
+
+-- the write itself, after an update
+write-allowed : (c : ClientId) (bytes : List ℕ) (s : Stream) (n : ℕ) → IsAllowedWrite bytes s n
+    → write c layout.Interleaved mode.NonBlock bytes s ≡ updated_or_epipe s (write_on c (nonblocking n) [] (frames_in s bytes))
+write-allowed c bytes s n h =
+    let k : ℕ = length bytes / s.setup.frame_bytes in
+    let some : nat_eq k 0 ≡ false = by k (λ e. h.some (h.count ∙ e)) in
+    let p : Program = updated_or_epipe s (write_on c (nonblocking k) [] (frames_in s bytes)) in
+    ap (λ (o : Option Errno). unless o s (if nat_eq k 0 then says (reply.Frames 0) s else unless (table kind.Write s) s p)) h.fits
+    ∙ ap (λ (b : Bool). if b then says (reply.Frames 0) s else unless (table kind.Write s) s p) some
+    ∙ ap (λ (o : Option Errno). unless o s p) h.permitted
+    ∙ ap (λ (i : ℕ). updated_or_epipe s (write_on c (nonblocking i) [] (frames_in s bytes))) (sym h.count)
+  where
+    by : (i : ℕ) → i ≢ 0 → nat_eq i 0 ≡ false
+    by i q = grind (arith, nat_tests, q)
+
+setup-settled : (u : Updated) (t : Stream) → (settled u t).setup ≡ t.setup
+setup-settled updated.Nothing t = refl
+setup-settled updated.StopXrun t = refl
+setup-settled updated.DrainDone t = refl
+
+-- no update changes what is set up
+setup-update : (s : Stream) → (update s).stream.setup ≡ s.setup
+setup-update s = by s.card.runs
+  where
+    by : (b : Bool) → (let r : Refreshed = if b then record { found = found (moved_up s); stream = settled (found (moved_up s)) (moved_up s) } else record { found = updated.Nothing; stream = s } in r.stream.setup) ≡ s.setup
+    by true = setup-settled (found (moved_up s)) (moved_up s)
+    by false = refl
+
+-- an update that finds nothing
+found-nothing : (f : Stream → Program) (u : Updated) (t : Stream) → updated.Nothing ≡ u → after_found (or_epipe f) u t ≡ f (stopped_if u t)
+found-nothing f updated.Nothing t h = refl
+found-nothing f updated.DrainDone t h = absurd (cc)
+found-nothing f updated.StopXrun t h = absurd (cc)
+
+-- an update that ends a drain or stops the stream
+found-end : (f : Stream → Program) (u : Updated) (t : Stream) → (u ≡ updated.DrainDone) ⊎ (u ≡ updated.StopXrun)
+    → ended (after_found (or_epipe f) u t) ≡ record { reply = reply.Err errno.Epipe; frames = []; stream = stopped_if u t }
+found-end f updated.Nothing t (inl h) = absurd (cc)
+found-end f updated.Nothing t (inr h) = absurd (cc)
+found-end f updated.DrainDone t h = refl
+found-end f updated.StopXrun t h = refl
+
+pub IsEnd-written : {C : Type 0} {g : Ghosts C} (now : Substream C g) (c : ClientId) (bytes : List ℕ) (s : Stream) (n : ℕ) (r : Reply) → IsAllowedWrite bytes s n
+    → updated.Nothing ≡ (update s).found → IsEnd (write_on c (nonblocking n) [] (frames_in (refreshed s) bytes) (refreshed s)) r now
+    → IsEnd (write c layout.Interleaved mode.NonBlock bytes s) r now
+IsEnd-written now c bytes s n r h e k =
+    let same : (refreshed s).setup ≡ s.setup = quiet_setup (update s).found (update s).stream e ∙ setup-update s in
+    let frames : frames_in (refreshed s) bytes ≡ frames_in s bytes = ap (λ (u : Setup). frames_of (length bytes / u.frame_bytes) u.frame_bytes bytes) same in
+    let whole : write c layout.Interleaved mode.NonBlock bytes s ≡ write_on c (nonblocking n) [] (frames_in (refreshed s) bytes) (refreshed s) =
+        write-allowed c bytes s n h
+        ∙ found-nothing (write_on c (nonblocking n) [] (frames_in s bytes)) (update s).found (update s).stream e
+        ∙ ap (λ (fs : List Frame). write_on c (nonblocking n) [] fs (refreshed s)) (sym frames) in
+    subst (λ (p : Program). IsEnd p r now) (sym whole) k
+  where
+    quiet_setup : (u : Updated) (t : Stream) → updated.Nothing ≡ u → (stopped_if u t).setup ≡ t.setup
+    quiet_setup updated.Nothing t h = refl
+    quiet_setup updated.DrainDone t h = refl
+    quiet_setup updated.StopXrun t h = absurd (cc)
+
+pub IsEnd-found_end : {C : Type 0} {g : Ghosts C} (now : Substream C g) (c : ClientId) (bytes : List ℕ) (s : Stream) (n : ℕ) → IsAllowedWrite bytes s n
+    → ((update s).found ≡ updated.DrainDone) ⊎ ((update s).found ≡ updated.StopXrun) → StandsFor now (refreshed s)
+    → IsEnd (write c layout.Interleaved mode.NonBlock bytes s) (reply.Err errno.Epipe) now
+IsEnd-found_end now c bytes s n h e k =
+    IsEnd-as now (write c layout.Interleaved mode.NonBlock bytes s) (reply.Err errno.Epipe) (record { reply = reply.Err errno.Epipe; frames = []; stream = refreshed s })
+    (ap ended (write-allowed c bytes s n h) ∙ found-end (write_on c (nonblocking n) [] (frames_in s bytes)) (update s).found (update s).stream e) refl k
