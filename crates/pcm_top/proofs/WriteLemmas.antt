@@ -1,10 +1,10 @@
 -- A write of a stream that stands alone in its group, turn by turn.
-use Rattle.std.proofs.Common.{ℕ, zero, suc, ◌⊎◌, inl, inr, ◌≡◌, ◌≢◌, ◌+◌, ◌-◌, ◌/◌, ◌%◌, ◌≤◌, ◌<◌, Bool, true, false, ◌&&◌, nat_eq, nat_le, List, [], ◌∷◌, ◌++◌, length, take, drop, min, refl, sym, ap, ◌∙◌, subst, arith, length-take, length-drop}
+use Rattle.std.proofs.Common.{ℕ, ◌⊎◌, inl, inr, ◌≡◌, ◌≢◌, ◌+◌, ◌-◌, ◌/◌, ◌%◌, ◌≤◌, ◌<◌, Bool, true, false, ◌&&◌, nat_eq, nat_le, List, [], ◌++◌, length, take, drop, min, refl, sym, ap, ◌∙◌, subst, arith, length-take, length-drop}
 use Rattle.std.proofs.Math.Path.{ap₂}
 use Rattle.std.proofs.Math.ListN.{drop_of_length-le}
 use Rattle.std.proofs.Math.Seq.{take-add}
 use Rattle.std.proofs.lemmas.Bool.Decides.{nat_tests}
-use Rattle.std.specs.Prelude.{IsSome, Result, Ok, Err, if◌then◌else◌}
+use Rattle.std.specs.Prelude.{IsSome, Ok, if◌then◌else◌}
 use Rattle.std.specs.Option.{ForSome, option_map}
 use Rattle.std.specs.declared.option.Option.{Option}
 use Rattle.std.specs.declared.option.Option.TheVariants.{Some, None}
@@ -35,8 +35,7 @@ use Rattle.pcm_base.specs.model.Frame.{Frame, frames_of}
 use Rattle.pcm_base.specs.model.Program.{Program, Makes, after_found, or_epipe, says, unless, updated_or_epipe}
 use Rattle.pcm_base.specs.model.Sound.{Sound}
 use Rattle.pcm_base.specs.model.Stream.{Stream, Setup, avail, shown}
-use Rattle.pcm_base.specs.model.Transfer.{after_start, frames_by, frames_in, frames_or, is_filled, is_whole, misfit, put_next, write, write_on, write_plain}
-use Rattle.pcm_base.specs.model.Permit.{permit}
+use Rattle.pcm_base.specs.model.Transfer.{after_start, frames_by, frames_in, frames_or, is_filled, is_whole, misfit, put_next, write, write_on}
 use Rattle.pcm_base.specs.model.Update.{Refreshed, found, moved_up, settled, update}
 use Rattle.pcm_base.specs.model.Words.{is_prepared}
 use Rattle.pcm_laws.specs.Turns.{turn}
@@ -219,7 +218,7 @@ ended-whole c ws rest m t h =
     none : (gs : List Frame) (i : ℕ) → length gs ≡ i → drop i gs ≡ []
     none gs i e = drop_of_length-le gs (omega (arith, e))
 
--- the write is the rest of that write after the first m frames
+-- The first m frames of a write of ws on s are moved: it ends with what a write of the rest ends with on this stream, which the substream stands for now.
 pub record WritesOn {C : Type 0} {g : Ghosts C} (now : Substream C g) (c : ClientId) (ws : List Frame) (s : Stream) (frames m : ℕ) : Type 0 where
   pub stream : Stream
   pub config : Config
@@ -229,7 +228,7 @@ pub record WritesOn {C : Type 0} {g : Ghosts C} (now : Substream C g) (c : Clien
   pub stands : StandsFor now stream
   pub ends : ended (write_on c (nonblocking frames) [] ws s) ≡ ended (write_on c (nonblocking frames) (take m ws) (drop m ws) stream)
 
--- the runtime that has these sizes
+-- a runtime with these sizes
 record HasSizes (o : Option Runtime) (shape : Shape) : Type 0 where
   runtime : Runtime
   is : o ≡ Some runtime
@@ -264,7 +263,7 @@ WritesOn-first now c bytes s frames h i n = by (shape_in now) refl i
     by (Some shape) e k = WritesOn-begins now c bytes s frames shape h e (n shape e)
     by None e k = absurd (cc)
 
--- the turn of n frames, where more than none can move
+-- a next turn, of n frames
 pub IsTurn-next : {C : Type 0} {g : Ghosts C} (now : Substream C g) (c : ClientId) (ws : List Frame) (s : Stream) (frames m n : ℕ) (h : WritesOn now c ws s frames m)
     → 0 < n → n ≡ turn (frames - m) h.stream → IsTurn ws m n h.stream
 IsTurn-next now c ws s frames m n h p e = record {
@@ -415,9 +414,9 @@ IsEnd-written now c bytes s n r h e k =
     let same : (refreshed s).setup ≡ s.setup = quiet_setup (update s).found (update s).stream e ∙ setup-update s in
     let frames : frames_in (refreshed s) bytes ≡ frames_in s bytes = ap (λ (u : Setup). frames_of (length bytes / u.frame_bytes) u.frame_bytes bytes) same in
     let whole : write c layout.Interleaved mode.NonBlock bytes s ≡ write_on c (nonblocking n) [] (frames_in (refreshed s) bytes) (refreshed s) =
-        write-allowed c bytes s n h
-        ∙ found-nothing (write_on c (nonblocking n) [] (frames_in s bytes)) (update s).found (update s).stream e
-        ∙ ap (λ (fs : List Frame). write_on c (nonblocking n) [] fs (refreshed s)) (sym frames) in
+    write-allowed c bytes s n h
+    ∙ found-nothing (write_on c (nonblocking n) [] (frames_in s bytes)) (update s).found (update s).stream e
+    ∙ ap (λ (fs : List Frame). write_on c (nonblocking n) [] fs (refreshed s)) (sym frames) in
     subst (λ (p : Program). IsEnd p r now) (sym whole) k
   where
     quiet_setup : (u : Updated) (t : Stream) → updated.Nothing ≡ u → (stopped_if u t).setup ≡ t.setup

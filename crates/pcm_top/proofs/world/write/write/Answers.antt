@@ -1,11 +1,7 @@
 use Rattle.std.proofs.Common.{inl, inr, ◌≡◌, ◌∙◌, sym, ap, refl}
-use Rattle.std.specs.Prelude.{Ok}
-use Rattle.pcm_base.specs.declared.act.Updated.{Updated}
-use Rattle.pcm_base.specs.declared.act.Updated.TheVariants as updated
 use Rattle.pcm_base.specs.declared.call.CallKind.TheVariants as kind
 use Rattle.pcm_base.specs.declared.state.Dir.{Dir}
 use Rattle.pcm_base.specs.declared.state.State.{State}
-use Rattle.pcm_base.specs.model.Acts.{table}
 use Rattle.pcm_base.specs.model.Permit.{permit}
 use Rattle.pcm_base.specs.model.Update.{update}
 use Rattle.state_table.specs.Cases.{answer_of}
