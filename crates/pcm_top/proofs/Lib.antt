@@ -2,3 +2,5 @@ pub mod LineLemmas
 pub mod BoxLemmas
 pub mod ScriptLemmas
 pub mod OutputLemmas
+pub mod AloneLemmas
+pub mod WriteLemmas

@@ -5,6 +5,7 @@ ghost use Rattle.pcm_base.specs.declared.call.Layout.TheVariants.{Interleaved};
 ghost use Rattle.pcm_base.specs.declared.call.Mode.TheVariants.{NonBlock};
 ghost use Rattle.pcm_base.specs.declared.config.Config.{Config as Configuration};
 ghost use Rattle.pcm_base.specs.declared.ids.ClientId.{ClientId};
+ghost use Rattle.pcm_base.specs.declared.reply.Reply.TheVariants.{Asleep, Memory};
 ghost use Rattle.pcm_base.specs.declared.sleeper.Xfer.{Xfer};
 ghost use Rattle.pcm_base.specs.Shape.{AreFrames, count_of};
 ghost use Rattle.pcm_base.specs.model.Stream.{Stream};
@@ -53,7 +54,9 @@ fn frames_to_write(stream: &Substream<AnyCard>, bytes: &[u8]) -> Result<u64, Err
 /// Writes whole interleaved frames without waiting, and starts the substream once `start_threshold` frames are queued
 /// (`snd_pcm_lib_write`). EAGAIN where no frame found room.
 pub fn write(stream: &mut Substream<AnyCard>, bytes: &[u8]) -> Reply
-    ensures { (c : ClientId) (s : Stream) → StandsFor stream.old s → IsEnd (write_of c Interleaved NonBlock bytes.now s) result stream.new }
+    ensures done { (c : ClientId) (s : Stream) → StandsFor stream.old s → IsEnd (write_of c Interleaved NonBlock bytes.now s) result stream.new }
+    ensures told { result ≢ Memory }
+    ensures awake { result ≢ Asleep }
 {
     let frames = match frames_to_write(stream, bytes) {
         Ok(frames) => frames,
@@ -73,7 +76,9 @@ pub fn write(stream: &mut Substream<AnyCard>, bytes: &[u8]) -> Reply
 
 // The frames that were moved, or the error where there are none.
 fn moved_or(moved: u64, e: Errno) -> Reply
-    ensures { result ≡ frames_or moved e }
+    ensures answer { result ≡ frames_or moved e }
+    ensures told { result ≢ Memory }
+    ensures awake { result ≢ Asleep }
 {
     if moved == 0 {
         Reply::Err(e)
@@ -116,8 +121,10 @@ fn write_frames(stream: &mut Substream<AnyCard>, bytes: &[u8], frames: u64) -> R
     requires shape { IsSome (shape_in stream.old) }
     requires whole { ForSome (shape_in stream.old) (λ shape. AreFrames shape bytes.now) }
     requires count { ForSome (shape_in stream.old) (λ shape. frames ≡ count_of shape bytes.now) }
-    ensures { (c : ClientId) (x : Xfer) (s : Stream) → StandsFor stream.old s → IsSome s.setup.config → x ≡ record { writing = true; layout = Interleaved; mode = NonBlock; rest = frames; moved = 0 }
+    ensures done { (c : ClientId) (x : Xfer) (s : Stream) → StandsFor stream.old s → x ≡ record { writing = true; layout = Interleaved; mode = NonBlock; rest = frames; moved = 0 }
         → IsEnd (write_on c x [] (frames_in s bytes.now) s) result stream.new }
+    ensures told { result ≢ Memory }
+    ensures awake { result ≢ Asleep }
 {
     let mut moved = 0;
     'turns: while moved < frames {
