@@ -5,6 +5,7 @@ ghost use Rattle.pcm_base.specs.declared.call.Layout.TheVariants.{Interleaved};
 ghost use Rattle.pcm_base.specs.declared.call.Mode.TheVariants.{NonBlock};
 ghost use Rattle.pcm_base.specs.declared.config.Config.{Config as Configuration};
 ghost use Rattle.pcm_base.specs.declared.ids.ClientId.{ClientId};
+ghost use Rattle.pcm_base.specs.declared.reply.Reply.TheVariants.{Asleep, Memory};
 ghost use Rattle.pcm_base.specs.declared.sleeper.Xfer.{Xfer};
 ghost use Rattle.pcm_base.specs.Shape.{AreFrames, count_of};
 ghost use Rattle.pcm_base.specs.model.Stream.{Stream};
@@ -53,7 +54,9 @@ fn frames_to_write(stream: &Substream<AnyCard>, bytes: &[u8]) -> Result<u64, Err
 /// Writes whole interleaved frames without waiting, and starts the substream once `start_threshold` frames are queued
 /// (`snd_pcm_lib_write`). EAGAIN where no frame found room.
 pub fn write(stream: &mut Substream<AnyCard>, bytes: &[u8]) -> Reply
-    ensures { (c : ClientId) (s : Stream) → StandsFor stream.old s → IsEnd (write_of c Interleaved NonBlock bytes.now s) result stream.new }
+    ensures done { (c : ClientId) (s : Stream) → StandsFor stream.old s → IsEnd (write_of c Interleaved NonBlock bytes.now s) result stream.new }
+    ensures told { result ≢ Memory }
+    ensures awake { result ≢ Asleep }
 {
     let frames = match frames_to_write(stream, bytes) {
         Ok(frames) => frames,
