@@ -17,7 +17,6 @@ use Rattle.pcm_base.specs.declared.call.Layout.TheVariants as layout
 use Rattle.pcm_base.specs.declared.call.Mode.{Mode}
 use Rattle.pcm_base.specs.declared.call.Mode.TheVariants as mode
 use Rattle.pcm_base.specs.declared.card.Card.{Ghosts}
-use Rattle.pcm_base.specs.declared.config.Config.{Config}
 use Rattle.pcm_base.specs.declared.ids.ClientId.{ClientId}
 use Rattle.pcm_base.specs.declared.reply.Reply.{Reply}
 use Rattle.pcm_base.specs.declared.reply.Reply.TheVariants as reply
@@ -32,7 +31,7 @@ use Rattle.pcm_base.specs.model.Allowed.{accepts}
 use Rattle.pcm_base.specs.model.Events.{event, if_held, page}
 use Rattle.pcm_base.specs.model.Frame.{Frame}
 use Rattle.pcm_base.specs.model.Movement.{Movement, given_by, move, taken_by, taken_bytes}
-use Rattle.pcm_base.specs.model.Program.{Program, Ends, Makes, act_alone, after_found, going_on, making, or_epipe, says, unless, updated_or_epipe, updating}
+use Rattle.pcm_base.specs.model.Program.{Program, Makes, act_alone, after_found, going_on, making, or_epipe, says, unless, updated_or_epipe, updating}
 use Rattle.pcm_base.specs.model.Standing.{put_at}
 use Rattle.pcm_base.specs.model.Stream.{Stream, avail}
 use Rattle.pcm_base.specs.model.Transfer.{after_moves, after_start, frames_in, frames_or, is_whole, misfit, put_next, starting_halt, tells, write, write_from, write_on, write_plain}
