@@ -1,5 +1,5 @@
 // What each event does to a substream that stands alone in its group (the ioctls of `pcm_native.c`).
-ghost use Rattle.std.specs.Prelude.{◌≡◌, ◌≢◌, true, false, []};
+ghost use Rattle.std.specs.Prelude.{◌≡◌, ◌≢◌, true, false, [], MatchResult};
 ghost use Rattle.pcm_base.specs.declared.act.Act.{Act as AnAct};
 ghost use Rattle.pcm_base.specs.declared.act.Act.TheVariants as act;
 ghost use Rattle.pcm_base.specs.declared.call.Call.TheVariants as call;
@@ -20,7 +20,12 @@ use pcm_base::{Act, Call, CallKind, Config, Errno, Reply, State};
 use pcm_stream::{DmaRefusal, HwRefusal, Substream};
 use state_table::permit;
 
-fn answer(done: Result<(), Errno>) -> Reply {
+// The answer of a call that gives nothing but an error.
+fn answer(done: Result<(), Errno>) -> Reply
+    ensures done { MatchResult done (λ _. result ≡ Reply.Ok) (λ e. result ≡ Reply.Err e) }
+    ensures told { result ≢ Memory }
+    ensures awake { result ≢ Asleep }
+{
     match done {
         Ok(()) => Reply::Ok,
         Err(e) => Reply::Err(e),
@@ -30,21 +35,26 @@ fn answer(done: Result<(), Errno>) -> Reply {
 // An act alone.
 fn made(stream: &mut Substream<AnyCard>, act: Act) -> Reply
     requires { is_stop act ≡ true }
-    ensures { (s : Stream) → StandsFor stream.old s → IsEnd (program_of act s) result stream.new }
+    ensures done { (s : Stream) → StandsFor stream.old s → IsEnd (program_of act s) result stream.new }
+    ensures told { result ≢ Memory }
+    ensures awake { result ≢ Asleep }
 {
     answer(act_alone(stream, act))
 }
 
 // An opening of a closed substream.
 fn open(stream: &mut Substream<AnyCard>) -> Reply
-    ensures { (c : ClientId) (s : Stream) → StandsFor stream.old s → IsEnd (event_of call.OpenSub c false [] s) result stream.new }
+    ensures done { (c : ClientId) (s : Stream) → StandsFor stream.old s → IsEnd (event_of call.OpenSub c false [] s) result stream.new }
+    ensures told { result ≢ Memory }
+    ensures awake { result ≢ Asleep }
 {
     answer(stream.open_sub())
 }
 
 fn hw_params(stream: &mut Substream<AnyCard>, config: &Config) -> Reply
-    ensures ok { (c : ClientId) (s : Stream) → StandsFor stream.old s → s.sleepers ≡ [] → result ≢ Memory → IsEnd (event_of (call.HwParams config.now) c false [] s) result stream.new }
+    ensures done { (c : ClientId) (s : Stream) → StandsFor stream.old s → s.sleepers ≡ [] → result ≢ Memory → IsEnd (event_of (call.HwParams config.now) c false [] s) result stream.new }
     ensures memory { (s : Stream) → StandsFor stream.old s → result ≡ Memory → StandsFor stream.new s }
+    ensures awake { result ≢ Asleep }
 {
     match stream.hw_params(config, false) {
         Ok(()) => Reply::Ok,
@@ -55,14 +65,18 @@ fn hw_params(stream: &mut Substream<AnyCard>, config: &Config) -> Reply
 
 // A paused or suspended substream is stopped first.
 fn prepare(stream: &mut Substream<AnyCard>) -> Reply
-    ensures { (c : ClientId) (s : Stream) → StandsFor stream.old s → IsEnd (event_of call.Prepare c false [] s) result stream.new }
+    ensures done { (c : ClientId) (s : Stream) → StandsFor stream.old s → IsEnd (event_of call.Prepare c false [] s) result stream.new }
+    ensures told { result ≢ Memory }
+    ensures awake { result ≢ Asleep }
 {
     let stop_first = matches!(stream.state(), State::Paused | State::Suspended);
     made(stream, Act::Prepare { stop_first })
 }
 
 fn drop_now(stream: &mut Substream<AnyCard>) -> Reply
-    ensures { (c : ClientId) (s : Stream) → StandsFor stream.old s → IsEnd (event_of call.DropNow c false [] s) result stream.new }
+    ensures done { (c : ClientId) (s : Stream) → StandsFor stream.old s → IsEnd (event_of call.DropNow c false [] s) result stream.new }
+    ensures told { result ≢ Memory }
+    ensures awake { result ≢ Asleep }
 {
     match permit(CallKind::DropNow, stream.state(), stream.dir()) {
         Ok(()) => made(stream, Act::Stop(State::Setup)),
@@ -71,7 +85,9 @@ fn drop_now(stream: &mut Substream<AnyCard>) -> Reply
 }
 
 fn xrun(stream: &mut Substream<AnyCard>) -> Reply
-    ensures { (c : ClientId) (s : Stream) → StandsFor stream.old s → IsEnd (event_of call.Xrun c false [] s) result stream.new }
+    ensures done { (c : ClientId) (s : Stream) → StandsFor stream.old s → IsEnd (event_of call.Xrun c false [] s) result stream.new }
+    ensures told { result ≢ Memory }
+    ensures awake { result ≢ Asleep }
 {
     match permit(CallKind::Xrun, stream.state(), stream.dir()) {
         Ok(()) if stream.state() == State::Running => made(stream, Act::Stop(State::Xrun)),
@@ -81,22 +97,27 @@ fn xrun(stream: &mut Substream<AnyCard>) -> Reply
 }
 
 fn status(stream: &mut Substream<AnyCard>) -> Reply
-    ensures { (c : ClientId) (s : Stream) → StandsFor stream.old s → IsEnd (event_of call.Status c false [] s) result stream.new }
+    ensures done { (c : ClientId) (s : Stream) → StandsFor stream.old s → IsEnd (event_of call.Status c false [] s) result stream.new }
+    ensures told { result ≢ Memory }
+    ensures awake { result ≢ Asleep }
 {
     refresh(stream);
     Reply::Ptrs(stream.page())
 }
 
 fn irq(stream: &mut Substream<AnyCard>) -> Reply
-    ensures { (c : ClientId) (s : Stream) → StandsFor stream.old s → IsEnd (event_of call.Irq c false [] s) result stream.new }
+    ensures done { (c : ClientId) (s : Stream) → StandsFor stream.old s → IsEnd (event_of call.Irq c false [] s) result stream.new }
+    ensures told { result ≢ Memory }
+    ensures awake { result ≢ Asleep }
 {
     refresh(stream);
     Reply::Ok
 }
 
 fn move_by(stream: &mut Substream<AnyCard>, n: u64) -> Reply
-    ensures ok { (c : ClientId) (s : Stream) → StandsFor stream.old s → result ≢ Memory → IsEnd (event_of (call.MoveBy n) c false [] s) result stream.new }
+    ensures done { (c : ClientId) (s : Stream) → StandsFor stream.old s → result ≢ Memory → IsEnd (event_of (call.MoveBy n) c false [] s) result stream.new }
     ensures memory { (s : Stream) → StandsFor stream.old s → result ≡ Memory → StandsFor stream.new s }
+    ensures awake { result ≢ Asleep }
 {
     match stream.dma(n) {
         Ok(moved) => Reply::Moved(moved),
