@@ -1,2 +1,4 @@
 pub mod LineLemmas
 pub mod BoxLemmas
+pub mod AloneLemmas
+pub mod WorldLemmas
