@@ -5,7 +5,7 @@ use Rattle.std.proofs.lemmas.Bool.{eqb-true}
 use Rattle.std.specs.Option.{ForSome, is_some}
 use Rattle.std.specs.declared.option.Option.{Option}
 use Rattle.std.specs.declared.option.Option.TheVariants.{Some, None}
-use Rattle.std.proofs.Math.Seq.{drop-append_seam, drop-length}
+use Rattle.std.proofs.Math.Seq.{drop-append_seam, drop-length, drop-nil}
 use Rattle.pcm_base.specs.declared.act.Act.{Act}
 use Rattle.pcm_base.specs.declared.act.Outcome.{Outcome}
 use Rattle.pcm_base.specs.declared.act.Outcome.TheVariants as outcome
@@ -15,6 +15,7 @@ use Rattle.pcm_base.specs.declared.call.Call.{Call}
 use Rattle.pcm_base.specs.declared.call.Call.TheVariants as call
 use Rattle.pcm_base.specs.declared.call.Event.{Event}
 use Rattle.pcm_base.specs.declared.config.CardModel.{CardModel}
+use Rattle.pcm_base.specs.declared.config.Config.{Config}
 use Rattle.pcm_base.specs.declared.ids.ClientId.{ClientId}
 use Rattle.pcm_base.specs.declared.ids.SubId.{SubId}
 use Rattle.pcm_base.specs.declared.reply.Reply.{Reply}
@@ -23,6 +24,7 @@ use Rattle.pcm_base.specs.declared.state.Dir.{Dir}
 use Rattle.pcm_base.specs.declared.state.Dir.TheVariants as dir
 use Rattle.pcm_base.specs.declared.state.Errno.{Errno}
 use Rattle.pcm_base.specs.declared.state.Errno.TheVariants as errno
+use Rattle.pcm_base.specs.declared.state.State.{State}
 use Rattle.pcm_base.specs.declared.state.State.TheVariants as state
 use Rattle.pcm_base.specs.declared.votes.Acted.{Acted}
 use Rattle.pcm_base.specs.model.Acts.{pre, trips, after, decide, acted, members_after, votes}
@@ -30,17 +32,21 @@ use Rattle.pcm_base.specs.model.Events.{event, program, opens}
 use Rattle.pcm_base.specs.model.Frame.{Frame, bytes_of}
 use Rattle.pcm_base.specs.model.Group.{Run, run, behind, marked, mark, stream_of}
 use Rattle.pcm_base.specs.model.Movement.{Movement, move, carried, carried_frames, taken_by, given_by, taken_bytes}
+use Rattle.pcm_base.specs.model.Sound.{Sound, SoundAt, is_set_up}
 use Rattle.pcm_base.specs.model.Standing.{put_at}
 use Rattle.pcm_base.specs.model.Program.{Answer, Program, Ends, Makes, fails}
 use Rattle.pcm_base.specs.model.Sleep.{wake, woken, group_drains, sleepers_that}
 use Rattle.pcm_base.specs.model.Stream.{Stream, Member, Waiting}
 use Rattle.pcm_base.specs.model.Words.{is_closed}
 use Rattle.pcm_base.specs.model.World.{World, InProgress, Told, stays, state_in, group_of, holds, lone, set_long, declare, told_bytes, kept_bytes, calls_after, in_group, chosen, named, is_go, begun, by_client, nobody, step}
+use Rattle.card_emul.specs.Limits.{limits_of}
+use Rattle.pcm_stream.specs.StandsFor.{StandsFor, card_of}
 use Rattle.pcm_stream.proofs.MoveLemmas.{bytes_of-append}
 use Rattle.pcm_top.specs.declared.world.Lone.{Lone}
 use Rattle.pcm_top.specs.declared.world.World.{World as OneStream}
 use Rattle.pcm_top.specs.Alone.{s0, alone, vote_alone, outcome_by, after_alone, Ended, ended}
-use Rattle.pcm_top.specs.OneStream.{IsWorld, IsLone, is_built_call, is_built_event, is_s0, bytes_shown}
+use Rattle.pcm_top.specs.OneStream.{IsWorld, IsLone, is_built_call, is_built_event, is_s0, bytes_shown, moved_in, taken_since}
+use Rattle.pcm_top.proofs.AloneLemmas.{IsSameSubstream}
 
 -- ---- the one vote decides
 
@@ -339,3 +345,59 @@ shows_by_call _ c io s before taken h k = tt
 pub shows_taken : (e : Event) (io : List ℕ) (s : Stream) (before : ℕ) (taken : List ℕ) → before ≡ length (bytes_of s.card.taken) → taken ≡ bytes_of (ended_on e io s).stream.card.taken
     → IfSome (bytes_shown e.call (bytes_told e io s)) (λ bytes. drop before taken ≡ bytes)
 shows_taken e io s before taken h k = shows_by_call e.call (client_or_nobody e.client) io s before taken h k
+
+-- ---- a closed card has taken nothing
+
+closed_is_bare : (t : State) → is_closed t ≡ true → is_set_up t ≡ true → ⊥
+closed_is_bare state.Closed h k = cc
+closed_is_bare _ h k = cc
+
+taken_where_closed : (o : Option Config) (s : Stream) → SoundAt o s → is_closed s.state ≡ true → s.card.taken ≡ []
+taken_where_closed (Some c) s h k = absurd (closed_is_bare s.state k h.state)
+taken_where_closed None s h k = h.taken
+
+pub none_taken_shut : (e : Call) (s : Stream) → Sound s → (is_closed s.state && not (opens e)) ≡ true → s.card.taken ≡ []
+none_taken_shut e s h k = taken_where_closed s.setup.config s h (and_first (is_closed s.state) (not (opens e)) k)
+
+pub shows_none : (e : Call) (before : ℕ) (taken : List ℕ) → taken ≡ [] → IfSome (bytes_shown e []) (λ bytes. drop before taken ≡ bytes)
+shows_none (call.MoveBy n) before taken h = ap (λ (bytes : List ℕ). drop before bytes) h ∙ drop-nil before
+shows_none _ before taken h = tt
+
+-- ---- the world of the code after a step
+
+pub IsWorld-with : (c : OneStream) (k : Lone) (w : World) → c.lone ≡ Some k → c.long_max ≡ w.long_max → w.calls ≡ [] → IsLone k w → IsWorld c w
+IsWorld-with c k w found long no_calls is = record {
+  long_max = long;
+  calls = no_calls;
+  lone = (λ l h. let same : k ≡ l = cc (found, h) in subst (λ (x : Lone). IsLone x w) same is);
+  none = (λ h. let never : ⊥ = cc (found, h) in absurd never);
+}
+
+pub IsWorld-after : (c : OneStream) (k : Lone) (w : World) (e : Event) (io : List ℕ) (t : Told) → step w e io ≡ t → c.lone ≡ Some k → c.long_max ≡ t.world.long_max → t.world.calls ≡ [] → IsLone k t.world
+    → IsWorld c (step w e io).world
+IsWorld-after c k w e io t is_step found long no_calls is =
+    subst (λ (u : Told). IsWorld c u.world) (sym is_step) (IsWorld-with c k t.world found long no_calls is)
+
+pub IsLone-after : (l k : Lone) (w : World) (h : IsLone l w) (n : ℕ) (t : Stream) → k.model ≡ l.model → IsSameSubstream h.stream t → StandsFor k.stream t → IsLone k (world_of n t)
+IsLone-after l k w h n t same_model same stands = record {
+  stream = t;
+  stands = stands;
+  model = same.model ∙ h.model ∙ ap limits_of (sym same_model);
+  dir = same.dir ∙ h.dir;
+  none_waits = same.sleepers ∙ h.none_waits;
+  groups = refl;
+}
+
+pub IsLone-kept : (l k : Lone) (w : World) (h : IsLone l w) → k.model ≡ l.model → StandsFor k.stream h.stream → IsLone k w
+IsLone-kept l k w h same_model stands = record {
+  stream = h.stream;
+  stands = stands;
+  model = h.model ∙ ap limits_of (sym same_model);
+  dir = h.dir;
+  none_waits = h.none_waits;
+  groups = h.groups;
+}
+
+pub moved_after : (w : World) (e : Event) (io : List ℕ) (t : Told) (before : ℕ) (taken : List ℕ) → step w e io ≡ t
+    → IfSome (bytes_shown e.call t.bytes) (λ bytes. drop before taken ≡ bytes) → IfSome (bytes_shown e.call (step w e io).bytes) (λ bytes. drop before taken ≡ bytes)
+moved_after w e io t before taken is_step h = subst (λ (u : Told). IfSome (bytes_shown e.call u.bytes) (λ bytes. drop before taken ≡ bytes)) (sym is_step) h
