@@ -4,3 +4,5 @@ pub mod ScriptLemmas
 pub mod OutputLemmas
 pub mod AloneLemmas
 pub mod WriteLemmas
+pub mod WorldLemmas
+pub mod SessionLemmas

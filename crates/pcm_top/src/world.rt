@@ -1,14 +1,15 @@
 // The one substream that is built, and what a step does to it.
-ghost use Rattle.std.specs.Prelude.{◌≡◌, ◌≢◌, ◌<◌, ◌^◌, ◌&&◌, not, true, IfSome, drop};
+ghost use Rattle.std.specs.Prelude.{◌≡◌, ◌≢◌, ◌<◌, ◌^◌, ◌&&◌, not, true, false, IfSome, [], drop};
 ghost use Rattle.pcm_base.specs.model.World.{World as ModelWorld, state_in, step as step_of, set_long as set_long_of, declare as declare_of, empty};
-ghost use Rattle.pcm_base.specs.declared.reply.Reply.TheVariants.{Memory};
+ghost use Rattle.pcm_base.specs.declared.ids.ClientId.{ClientId};
+ghost use Rattle.pcm_base.specs.declared.reply.Reply.TheVariants.{Asleep, Memory};
 ghost use Rattle.pcm_base.specs.declared.state.Dir.TheVariants.{Playback};
-ghost use Rattle.pcm_base.specs.model.Events.{opens};
+ghost use Rattle.pcm_base.specs.model.Events.{event as event_of, opens};
 ghost use Rattle.pcm_base.specs.model.Stream.{Stream};
 ghost use Rattle.pcm_base.specs.model.Words.{is_closed};
 ghost use Rattle.card_emul.specs.Limits.{limits_of};
-ghost use Rattle.pcm_stream.specs.StandsFor.{StandsFor};
-ghost use Rattle.pcm_top.specs.Alone.{s0};
+ghost use Rattle.pcm_stream.specs.StandsFor.{StandsFor, card_of};
+ghost use Rattle.pcm_top.specs.Alone.{IsEnd, ended, s0};
 
 mod alone;
 mod events;
@@ -28,6 +29,41 @@ const FIRST_LONG_MAX: u64 = 2_147_483_647;
 pub struct Lone {
     pub model: Model,
     pub stream: Substream<AnyCard>,
+}
+
+impl Lone {
+    ghost use Rattle.pcm_top.specs.OneStream.{is_built_call};
+
+    // A closed substream, which every event but its opening refuses.
+    fn is_shut(&self, call: Call) -> bool
+        ensures { (s : Stream) → StandsFor self.now.stream s → result ≡ (is_closed s.state && not (opens call)) }
+    {
+        self.stream.state() == State::Closed && !matches!(call, Call::OpenSub)
+    }
+
+    fn state(&self) -> State
+        ensures { (s : Stream) → StandsFor self.now.stream s → result ≡ s.state }
+    {
+        self.stream.state()
+    }
+
+    // The bytes that the card has taken.
+    fn taken(&self) -> &[u8]
+        ensures { result.now ≡ (card_of self.now.stream).taken }
+    {
+        self.stream.card().taken()
+    }
+
+    // An event on the substream, on which nobody waits.
+    fn make(&mut self, call: Call, bytes: &[u8]) -> Reply
+        requires { is_built_call call ≡ true }
+        ensures done { (c : ClientId) (s : Stream) → StandsFor self.old.stream s → s.sleepers ≡ [] → result ≢ Memory → IsEnd (event_of call c false bytes.now s) result self.new.stream }
+        ensures memory { (s : Stream) → StandsFor self.old.stream s → result ≡ Memory → StandsFor self.new.stream s }
+        ensures awake { result ≢ Asleep }
+        ensures model { self.new.model ≡ self.old.model }
+    {
+        event_alone(&mut self.stream, call, bytes)
+    }
 }
 
 /// A world of the one substream s0, once it is declared. `before` tells how many bytes its card had taken as the last
@@ -93,7 +129,7 @@ impl World {
         ensures world { (w : ModelWorld) → IsWorld self.old w → IsWorld self.new (declare_of sub (limits_of model) dir w).world }
     {
         if let Some(lone) = &self.lone {
-            return told(Reply::Err(Errno::Ebusy), Some(lone.stream.state()));
+            return told(Reply::Err(Errno::Ebusy), Some(lone.state()));
         }
         let card = AnyCard::new(self.alloc, model, dir);
         let stream = Substream::new(self.alloc, card, dir, self.long_max);
@@ -114,12 +150,12 @@ impl World {
         let Some(lone) = &mut self.lone else {
             return told(Reply::Err(Errno::Enxio), Some(State::Closed));
         };
-        if is_shut(&lone.stream, event.call) {
+        if lone.is_shut(event.call) {
             return told(Reply::Err(Errno::Enxio), Some(State::Closed));
         }
-        self.before = lone.stream.card().taken().len();
-        let reply = event_alone(&mut lone.stream, event.call, bytes);
-        told(reply, Some(lone.stream.state()))
+        self.before = lone.taken().len();
+        let reply = lone.make(event.call, bytes);
+        told(reply, Some(lone.state()))
     }
 
     /// An answer that leaves the world as it is, with the state of s0.
@@ -129,7 +165,7 @@ impl World {
     {
         match &self.lone {
             None => told(reply, Some(State::Closed)),
-            Some(lone) => told(reply, Some(lone.stream.state())),
+            Some(lone) => told(reply, Some(lone.state())),
         }
     }
 
@@ -139,7 +175,7 @@ impl World {
     {
         match &self.lone {
             None => &[],
-            Some(lone) => from(lone.stream.card().taken(), self.before),
+            Some(lone) => from(lone.taken(), self.before),
         }
     }
 }
@@ -149,11 +185,4 @@ fn from(bytes: &[u8], start: usize) -> &[u8]
     ensures { result.now ≡ drop start bytes.now }
 {
     &bytes[start.min(bytes.len())..]
-}
-
-// A closed substream, which every event but its opening refuses.
-fn is_shut(stream: &Substream<AnyCard>, call: Call) -> bool
-    ensures { (s : Stream) → StandsFor stream.now s → result ≡ (is_closed s.state && not (opens call)) }
-{
-    stream.state() == State::Closed && !matches!(call, Call::OpenSub)
 }
