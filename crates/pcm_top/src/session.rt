@@ -81,7 +81,12 @@ fn save_line<F: Shelf>(
     name: &Name,
     session: &mut Session,
     shelf: &mut F,
-) -> Result<(), ShelfError> {
+) -> Result<(), ShelfError>
+    ensures ok { (s : Come) → IsSession session.old (F.files shelf.old) s → OnOk result (IsSession session.new (F.files shelf.new) (run_line_of number (line_of.Save s0 name.now) s)) }
+    ensures failed { (s : Come) → IsSession session.old (F.files shelf.old) s → IsErrOf result Failed → IsStopped Run (line_of.Save s0 name.now) s session.new.text.items (F.files shelf.new) }
+    ensures memory { (s : Come) → IsSession session.old (F.files shelf.old) s → IsErrOf result Memory → IsCut Run number (line_of.Save s0 name.now) s (F.files shelf.new) }
+    ensures cause { HasShelfCause (F.faults shelf.old) (F.faults shelf.new) result }
+{
     let reply = match file_to_save(alloc, &session.world)? {
         Ok(file) => {
             shelf.store(name, &file)?;
@@ -150,7 +155,9 @@ pub fn answer_line<F: Shelf>(
 }
 
 /// Puts the lines behind the text that follow the last line of the command: in `run` one for each declared substream.
-pub fn close(alloc: Global, command: Command, session: &mut Session) -> Result<(), AllocError> {
+pub fn close(alloc: Global, command: Command, session: &mut Session) -> Result<(), AllocError>
+    ensures { (s : Come) → IsWorld session.old.world s.world → OnOk result (session.new.text.items ≡ session.old.text.items ++ closing command Whole s) }
+{
     match (command, &session.world.lone) {
         (Command::Run, Some(lone)) => {
             let line = end_text(
