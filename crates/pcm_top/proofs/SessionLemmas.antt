@@ -1,5 +1,6 @@
 -- What a line of `run` makes of a session, and the end of its text.
-use Rattle.std.proofs.Common.{◌≡◌, ℕ, ◌+◌, ◌*◌, ◌%◌, ◌^◌, ◌<◌, ◌≤◌, Bool, true, false, not, ◌&&◌, List, [], ◌∷◌, ◌++◌, length, refl, sym, ◌∙◌, ap, subst, arith, lit<, lit≤, mul_comm}
+use Rattle.std.proofs.Common.{◌≡◌, ℕ, ◌+◌, ◌*◌, ◌%◌, ◌^◌, ◌<◌, ◌≤◌, Bool, true, false, not, ◌&&◌, List, [], ◌∷◌, ◌++◌, length, refl, sym, ◌∙◌, ap, subst, inl, inr, Vec, Global, arith, lit<, lit≤, mul_comm}
+use Rattle.std.specs.FinMap.{get, insert}
 use Rattle.std.specs.declared.option.Option.{Option}
 use Rattle.std.specs.declared.option.Option.TheVariants.{Some, None}
 use Rattle.pcm_base.specs.declared.config.CardModel.{CardModel}
@@ -8,6 +9,9 @@ use Rattle.pcm_base.specs.declared.config.Model.{Model}
 use Rattle.pcm_base.specs.declared.config.Model.TheVariants as model
 use Rattle.pcm_base.specs.declared.format.Format.{Format}
 use Rattle.pcm_base.specs.declared.format.Format.TheVariants as format
+use Rattle.pcm_base.specs.declared.reply.Reply.{Reply}
+use Rattle.pcm_base.specs.declared.reply.Reply.TheVariants as reply
+use Rattle.pcm_base.specs.declared.reply.Told.{Told as Shown}
 use Rattle.pcm_base.specs.declared.state.Dir.TheVariants as dir
 use Rattle.pcm_base.specs.declared.state.Errno.{Errno}
 use Rattle.pcm_base.specs.declared.state.Errno.TheVariants as errno
@@ -20,14 +24,23 @@ use Rattle.pcm_base.specs.model.Frame.{bytes_of}
 use Rattle.pcm_base.specs.model.Sound.{SoundAt, IsConfigured}
 use Rattle.pcm_base.specs.model.Stream.{Stream}
 use Rattle.pcm_base.specs.model.Words.{when, ◌then◌, is_closed, is_playback}
-use Rattle.pcm_base.specs.model.World.{World, stream_in}
+use Rattle.pcm_base.specs.model.World.{World, Told, stream_in, state_in, stays}
 use Rattle.card_emul.specs.Limits.{limits_of}
+use Rattle.pcm_io.specs.Shelf.{Files, Stay, Stores, OthersStay}
 use Rattle.pcm_laws.proofs.Sizes.{accepts-allows}
+use Rattle.pcm_line.specs.declared.line.Line.{Line}
+use Rattle.pcm_line.specs.declared.line.Line.TheVariants.{Save}
+use Rattle.pcm_text.specs.Told.{told_line}
 use Rattle.wav_file.specs.Grammar.{CanWrite, IsWavFormat, wav_bytes}
 use Rattle.wav_file.specs.Recordings.{Recording}
 use Rattle.pcm_top.specs.Alone.{s0, alone}
-use Rattle.pcm_top.specs.OneStream.{IsLone}
-use Rattle.pcm_top.specs.Run.{has_wav_format, is_wav_format, save_refusal, saved_file, file_by}
+use Rattle.pcm_top.specs.CodeSession.{IsSession, IsCut, Keeps}
+use Rattle.pcm_top.specs.OneStream.{IsLone, IsWorld, shown}
+use Rattle.pcm_top.specs.Run.{has_wav_format, is_wav_format, save_refusal, saved_file, file_by, save_answer, files_saved, stored, run_line}
+use Rattle.pcm_top.specs.Session.{Session, AreFilesBut}
+use Rattle.pcm_top.specs.declared.command.Command.{Command}
+use Rattle.pcm_top.specs.declared.command.Command.TheVariants.{Run}
+use Rattle.pcm_top.specs.declared.session.Session.{Session as Kept}
 use Rattle.pcm_top.specs.declared.world.Lone.{Lone}
 use denote.Enum.Bare.{sameb}
 
@@ -112,3 +125,91 @@ pub saved-file : (l : Lone) (w : World) (is : IsLone l w) (c : Config) (frames f
     → file ≡ wav_bytes (record { format = c.format; channels = c.channels; rate = c.rate; frames = frames }) → file ≡ saved_file (stream_in s0 w)
 saved-file l w is c frames file has took e =
     e ∙ ap (λ (k : List ℕ). file_by (Some c) k) took ∙ ap (λ (o : Option Config). file_by o (bytes_of is.stream.card.taken)) (sym has) ∙ ap saved_file (sym (stream_alone is.stream w is.groups))
+
+-- ---- what a save answers and stores
+
+-- the answer and the files, by why they are refused
+abbrev answer_by : World → Option Errno → Told
+answer_by w r = elim r [ | Some e ↦ stays (reply.Err e) (Some (state_in s0 w)) w | None ↦ stays reply.Ok (Some (state_in s0 w)) w ]
+
+abbrev files_by : List ℕ → World → Option Files → Option Errno → Option Files
+files_by name w files r = elim r [ | Some e ↦ files | None ↦ stored name (saved_file (stream_in s0 w)) files ]
+
+pub reply-allowed : (w : World) → save_refusal s0 w ≡ None → reply.Ok ≡ (save_answer s0 w).reply
+reply-allowed w none = ap (λ (r : Option Errno). (answer_by w r).reply) (sym none)
+
+pub reply-refused : (w : World) (e : Errno) → save_refusal s0 w ≡ Some e → reply.Err e ≡ (save_answer s0 w).reply
+reply-refused w e some = ap (λ (r : Option Errno). (answer_by w r).reply) (sym some)
+
+pub stays-along : (files before now : Option Files) → Stay files before → Stay before now → Stay files now
+stays-along None before now a b = tt
+stays-along (Some f) None now a b = absurd a
+stays-along (Some f) (Some g) None a b = absurd b
+stays-along (Some f) (Some g) (Some h) a b = b ∙ a
+
+pub others-along : (files before now : Option Files) (name : List ℕ) → Stay files before → OthersStay before now name → OthersStay files now name
+others-along None before now name a b = tt
+others-along (Some f) None now name a b = absurd a
+others-along (Some f) (Some g) None name a b = absurd b
+others-along (Some f) (Some g) (Some h) name a b = λ other ne. b other ne ∙ ap (λ (x : Files). get x other) a
+
+stores-along : (files before now : Option Files) (name bytes : List ℕ) → Stay files before → Stores before now name bytes → Stay (stored name bytes files) now
+stores-along None before now name bytes a b = tt
+stores-along (Some f) None now name bytes a b = absurd a
+stores-along (Some f) (Some g) None name bytes a b = absurd b
+stores-along (Some f) (Some g) (Some h) name bytes a b = b ∙ ap (λ (x : Files). insert x name bytes) a
+
+pub files-allowed : (name bytes : List ℕ) (w : World) (files before now : Option Files) → save_refusal s0 w ≡ None → bytes ≡ saved_file (stream_in s0 w)
+    → Stay files before → Stores before now name bytes → Stay (files_saved s0 name w files) now
+files-allowed name bytes w files before now none file a b =
+    subst (λ (r : Option Errno). Stay (files_by name w files r) now) (sym none)
+    (subst (λ (l : List ℕ). Stay (stored name l files) now) file (stores-along files before now name bytes a b))
+
+pub files-refused : (name : List ℕ) (w : World) (files now : Option Files) (e : Errno) → save_refusal s0 w ≡ Some e → Stay files now → Stay (files_saved s0 name w files) now
+files-refused name w files now e some a = subst (λ (r : Option Errno). Stay (files_by name w files r) now) (sym some) a
+
+pub world-save : (w : World) → (save_answer s0 w).world ≡ w
+world-save w = elim (save_refusal s0 w) as (λ (r : Option Errno). (answer_by w r).world ≡ w) [ Some e ↦ refl | None ↦ refl ]
+
+pub shown-save : (w : World) → record { reply = (save_answer s0 w).reply; state = Some (state_in s0 w); woken = 0 } ≡ shown (save_answer s0 w)
+shown-save w =
+    elim (save_refusal s0 w) as (λ (r : Option Errno). record { reply = (answer_by w r).reply; state = Some (state_in s0 w); woken = 0 } ≡ shown (answer_by w r))
+    [ Some e ↦ refl | None ↦ refl ]
+
+-- ---- the session behind a line
+
+-- nothing was done
+pub cut-before : (c : Command) (number : ℕ) (line : Line) (k : Kept) (s : Session) (before now : Option Files) → IsSession k before s → Stay before now → IsCut c number line s now
+cut-before c number line k s before now is stay = record {
+  last = s;
+  reached = inl refl;
+  shelf = subst (λ (l : Option (List ℕ)). AreFilesBut l s.files now) (sym is.none_lost) (stays-along s.files before now is.shelf stay);
+}
+
+-- the file was stored, and then memory was wanting
+pub save-cut : (number : ℕ) (name : List ℕ) (s : Session) (now : Option Files) → s.lost ≡ None → Stay (files_saved s0 name s.world s.files) now → IsCut Run number (Save s0 name) s now
+save-cut number name s now none stay = record {
+  last = run_line number (Save s0 name) s;
+  reached = inr (refl, refl);
+  shelf = subst (λ (l : Option (List ℕ)). AreFilesBut l (files_saved s0 name s.world s.files) now) (sym none) stay;
+}
+
+-- the line of a save stands behind the text
+save-text : (number : ℕ) (w : World) (told : Shown) (r : Reply) (old text now : List ℕ) → told ≡ record { reply = r; state = Some (state_in s0 w); woken = 0 } → r ≡ (save_answer s0 w).reply
+    → old ≡ text → now ≡ old ++ told_line number told None → now ≡ text ++ told_line number (shown (save_answer s0 w)) None
+save-text number w told r old text now t answer same line =
+    line ∙ ap (λ (l : List ℕ). l ++ told_line number told None) same
+    ∙ ap (λ (x : Shown). text ++ told_line number x None) (t ∙ ap (λ (x : Reply). record { reply = x; state = Some (state_in s0 w); woken = 0 }) answer ∙ shown-save w)
+
+pub save-session : (k : Kept) (number : ℕ) (name : List ℕ) (s : Session) (files now : Option Files) (told : Shown) (r : Reply) (text : Vec ℕ Global)
+    → IsSession k files s → Stay (files_saved s0 name s.world s.files) now
+    → told ≡ record { reply = r; state = Some (state_in s0 s.world); woken = 0 } → r ≡ (save_answer s0 s.world).reply → text.items ≡ k.text.items ++ told_line number told None
+    → IsSession (record { world = k.world; text = text }) now (run_line number (Save s0 name) s)
+save-session k number name s files now told r text is stay t answer line = record {
+  keeps = record {
+    world = subst (λ (w : World). IsWorld k.world w) (sym (world-save s.world)) is.keeps.world;
+    text = save-text number s.world told r k.text.items s.text text.items t answer is.keeps.text line;
+  };
+  none_lost = is.none_lost;
+  shelf = stay;
+}
