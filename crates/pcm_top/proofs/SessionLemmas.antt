@@ -1,6 +1,8 @@
 -- What a line of `run` makes of a session, and the end of its text.
-use Rattle.std.proofs.Common.{◌≡◌, ℕ, ◌+◌, ◌*◌, ◌%◌, ◌^◌, ◌<◌, ◌≤◌, Bool, true, false, not, ◌&&◌, List, [], ◌∷◌, ◌++◌, length, refl, sym, ◌∙◌, ap, subst, inl, inr, Vec, Global, arith, lit<, lit≤, mul_comm}
+use Rattle.std.proofs.Common.{◌≡◌, ℕ, ◌+◌, ◌*◌, ◌%◌, ◌^◌, ◌<◌, ◌≤◌, Bool, true, false, not, ◌&&◌, List, [], ◌∷◌, ◌++◌, length, refl, sym, ◌∙◌, ap, subst, inl, inr, Vec, Global, Result, Ok, Err, is_ok, OnOk, min, ◌-◌, append-nil, arith, lit<, lit≤, mul_comm}
 use Rattle.std.specs.FinMap.{get, insert}
+use Rattle.std.specs.Prelude.{if◌then◌else◌}
+use Rattle.std.specs.declared.alloc.AllocError.{AllocError}
 use Rattle.std.specs.declared.option.Option.{Option}
 use Rattle.std.specs.declared.option.Option.TheVariants.{Some, None}
 use Rattle.pcm_base.specs.declared.config.CardModel.{CardModel}
@@ -22,21 +24,23 @@ use Rattle.pcm_base.specs.Numbers.{sample_bytes}
 use Rattle.pcm_base.specs.model.Allowed.{accepts, frame_bytes_of}
 use Rattle.pcm_base.specs.model.Frame.{bytes_of}
 use Rattle.pcm_base.specs.model.Sound.{SoundAt, IsConfigured}
-use Rattle.pcm_base.specs.model.Stream.{Stream}
+use Rattle.pcm_base.specs.model.Events.{page}
+use Rattle.pcm_base.specs.model.Stream.{Stream, Member}
 use Rattle.pcm_base.specs.model.Words.{when, ◌then◌, is_closed, is_playback}
-use Rattle.pcm_base.specs.model.World.{World, Told, stream_in, state_in, stays}
+use Rattle.pcm_base.specs.model.World.{World, Told, InProgress, stream_in, state_in, stays}
 use Rattle.card_emul.specs.Limits.{limits_of}
 use Rattle.pcm_io.specs.Shelf.{Files, Stay, Stores, OthersStay}
 use Rattle.pcm_laws.proofs.Sizes.{accepts-allows}
 use Rattle.pcm_line.specs.declared.line.Line.{Line}
 use Rattle.pcm_line.specs.declared.line.Line.TheVariants.{Save}
+use Rattle.pcm_text.specs.End.{end_line}
 use Rattle.pcm_text.specs.Told.{told_line}
 use Rattle.wav_file.specs.Grammar.{CanWrite, IsWavFormat, wav_bytes}
 use Rattle.wav_file.specs.Recordings.{Recording}
 use Rattle.pcm_top.specs.Alone.{s0, alone}
 use Rattle.pcm_top.specs.CodeSession.{IsSession, IsCut, Keeps}
 use Rattle.pcm_top.specs.OneStream.{IsLone, IsWorld, shown}
-use Rattle.pcm_top.specs.Run.{has_wav_format, is_wav_format, save_refusal, saved_file, file_by, save_answer, files_saved, stored, run_line}
+use Rattle.pcm_top.specs.Run.{has_wav_format, is_wav_format, save_refusal, saved_file, file_by, save_answer, files_saved, stored, run_line, end_lines}
 use Rattle.pcm_top.specs.Session.{Session, AreFilesBut}
 use Rattle.pcm_top.specs.declared.command.Command.{Command}
 use Rattle.pcm_top.specs.declared.command.Command.TheVariants.{Run}
@@ -213,3 +217,19 @@ save-session k number name s files now told r text is stay t answer line = recor
   none_lost = is.none_lost;
   shelf = stay;
 }
+
+-- ---- the end of the text
+
+end-of-one : (n : ℕ) (calls : List InProgress) (s : Stream) → end_lines (record { long_max = n; groups = alone s ∷ []; calls = calls }) ≡ end_line s0 (page s) (min s.moved (2 ^ 64 - 1)) ++ []
+end-of-one n calls s = refl
+
+end-of-none : (n : ℕ) (calls : List InProgress) → end_lines (record { long_max = n; groups = []; calls = calls }) ≡ []
+end-of-none n calls = refl
+
+pub end-alone : (s : Stream) (w : World) → w.groups ≡ alone s ∷ [] → end_line s0 (page s) (min s.moved (2 ^ 64 - 1)) ≡ end_lines w
+end-alone s w e =
+    sym (ap (λ (g : List (List Member)). end_lines (record { long_max = w.long_max; groups = g; calls = w.calls })) e ∙ end-of-one w.long_max w.calls s ∙ append-nil _)
+
+pub on-behind : (r : Result (Unit {0}) AllocError) (old added line new failed : List ℕ) → new ≡ (if is_ok r then old ++ added else failed) → added ≡ line → OnOk r (new ≡ old ++ line)
+on-behind (Ok u) old added line new failed e same = e ∙ ap (λ (l : List ℕ). old ++ l) same
+on-behind (Err x) old added line new failed e same = tt
