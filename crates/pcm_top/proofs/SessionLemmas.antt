@@ -1,7 +1,8 @@
 -- What a line of `run` makes of a session, and the end of its text.
 use Rattle.std.proofs.Common.{◌≡◌, ℕ, ◌+◌, ◌*◌, ◌%◌, ◌^◌, ◌<◌, ◌≤◌, Bool, true, false, not, ◌&&◌, List, [], ◌∷◌, ◌++◌, length, refl, sym, ◌∙◌, ap, subst, inl, inr, Vec, Global, Result, Ok, Err, is_ok, OnOk, min, ◌-◌, append-nil, arith, lit<, lit≤, mul_comm}
 use Rattle.std.specs.FinMap.{get, insert}
-use Rattle.std.specs.Prelude.{if◌then◌else◌}
+use Rattle.std.specs.Prelude.{if◌then◌else◌, nat_eq}
+use Rattle.std.proofs.lemmas.Bool.Decides.{nat_tests}
 use Rattle.std.specs.declared.alloc.AllocError.{AllocError}
 use Rattle.std.specs.declared.option.Option.{Option}
 use Rattle.std.specs.declared.option.Option.TheVariants.{Some, None}
@@ -9,8 +10,10 @@ use Rattle.pcm_base.specs.declared.config.CardModel.{CardModel}
 use Rattle.pcm_base.specs.declared.config.Config.{Config}
 use Rattle.pcm_base.specs.declared.config.Model.{Model}
 use Rattle.pcm_base.specs.declared.config.Model.TheVariants as model
+use Rattle.pcm_base.specs.declared.config.Space.{Space as Box}
 use Rattle.pcm_base.specs.declared.format.Format.{Format}
 use Rattle.pcm_base.specs.declared.format.Format.TheVariants as format
+use Rattle.pcm_base.specs.declared.ids.SubId.{SubId}
 use Rattle.pcm_base.specs.declared.reply.Reply.{Reply}
 use Rattle.pcm_base.specs.declared.reply.Reply.TheVariants as reply
 use Rattle.pcm_base.specs.declared.reply.Told.{Told as Shown}
@@ -32,18 +35,19 @@ use Rattle.card_emul.specs.Limits.{limits_of}
 use Rattle.pcm_io.specs.Shelf.{Files, Stay, Stores, OthersStay}
 use Rattle.pcm_laws.proofs.Sizes.{accepts-allows}
 use Rattle.pcm_line.specs.declared.line.Line.{Line}
-use Rattle.pcm_line.specs.declared.line.Line.TheVariants.{Save}
+use Rattle.pcm_line.specs.declared.line.Line.TheVariants.{Save, Space}
 use Rattle.pcm_text.specs.End.{end_line}
 use Rattle.pcm_text.specs.Told.{told_line}
 use Rattle.wav_file.specs.Grammar.{CanWrite, IsWavFormat, wav_bytes}
 use Rattle.wav_file.specs.Recordings.{Recording}
 use Rattle.pcm_top.specs.Alone.{s0, alone}
-use Rattle.pcm_top.specs.CodeSession.{IsSession, IsCut, Keeps}
-use Rattle.pcm_top.specs.OneStream.{IsLone, IsWorld, shown}
-use Rattle.pcm_top.specs.Run.{has_wav_format, is_wav_format, save_refusal, saved_file, file_by, save_answer, files_saved, stored, run_line, end_lines}
+use Rattle.pcm_top.specs.CodeSession.{IsSession, IsCut, IsNext, Keeps}
+use Rattle.pcm_top.specs.OneStream.{IsLone, IsWorld, is_s0, shown}
+use Rattle.pcm_top.specs.Refine.{IsAnswer}
+use Rattle.pcm_top.specs.Run.{has_wav_format, is_wav_format, save_refusal, saved_file, file_by, save_answer, files_saved, stored, run_line, end_lines, is_built}
 use Rattle.pcm_top.specs.Session.{Session, AreFilesBut}
 use Rattle.pcm_top.specs.declared.command.Command.{Command}
-use Rattle.pcm_top.specs.declared.command.Command.TheVariants.{Run}
+use Rattle.pcm_top.specs.declared.command.Command.TheVariants.{Run, Refine}
 use Rattle.pcm_top.specs.declared.session.Session.{Session as Kept}
 use Rattle.pcm_top.specs.declared.world.Lone.{Lone}
 use denote.Enum.Bare.{sameb}
@@ -190,6 +194,13 @@ cut-before c number line k s before now is stay = record {
   shelf = subst (λ (l : Option (List ℕ)). AreFilesBut l s.files now) (sym is.none_lost) (stays-along s.files before now is.shelf stay);
 }
 
+pub cut-untouched : (c : Command) (number : ℕ) (line : Line) (k : Kept) (s : Session) (files : Option Files) → IsSession k files s → IsCut c number line s files
+cut-untouched c number line k s files is = record {
+  last = s;
+  reached = inl refl;
+  shelf = subst (λ (l : Option (List ℕ)). AreFilesBut l s.files files) (sym is.none_lost) is.shelf;
+}
+
 -- the file was stored, and then memory was wanting
 pub save-cut : (number : ℕ) (name : List ℕ) (s : Session) (now : Option Files) → s.lost ≡ None → Stay (files_saved s0 name s.world s.files) now → IsCut Run number (Save s0 name) s now
 save-cut number name s now none stay = record {
@@ -233,3 +244,34 @@ end-alone s w e =
 pub on-behind : (r : Result (Unit {0}) AllocError) (old added line new failed : List ℕ) → new ≡ (if is_ok r then old ++ added else failed) → added ≡ line → OnOk r (new ≡ old ++ line)
 on-behind (Ok u) old added line new failed e same = e ∙ ap (λ (l : List ℕ). old ++ l) same
 on-behind (Err x) old added line new failed e same = tt
+
+-- ---- a save is one of s0
+
+zero-is : (n : ℕ) → nat_eq n 0 ≡ true → n ≡ 0
+zero-is n h = grind (arith, nat_tests)
+
+pub save-of-s0 : (line : Line) (k : SubId) (name : List ℕ) → is_built line ≡ true → line ≡ Save k name → Save s0 name ≡ line
+save-of-s0 line k name built is =
+    let first : is_s0 k ≡ true = subst (λ (l : Line). is_built l ≡ true) is built in
+    let number : k.0 ≡ 0 = zero-is k.0 first in
+    ap (λ (n : ℕ). Save (record { 0 = n }) name) (sym number) ∙ sym is
+
+-- ---- a space line answered
+
+space-answered : (number : ℕ) (m : Model) (box : Box) (k : Kept) (s : Session) (files : Option Files) (text : Vec ℕ Global) → IsSession k files s
+    → (answer : List ℕ) × IsAnswer m box answer × (text.items ≡ k.text.items ++ answer) → IsNext Refine number (Space m box) s (record { world = k.world; text = text }) files
+space-answered number m box k s files text is given = record {
+  next = record s { text = s.text ++ given.0 };
+  answers = (given.0, given.1, refl);
+  session = record {
+    keeps = record { world = is.keeps.world; text = given.2 ∙ ap (λ (l : List ℕ). l ++ given.0) is.keeps.text };
+    none_lost = is.none_lost;
+    shelf = is.shelf;
+  };
+}
+
+pub next-of-space : (c : Command) (number : ℕ) (line : Line) (m : Model) (box : Box) (k : Kept) (s : Session) (files : Option Files) (text : Vec ℕ Global) → c ≡ Refine → line ≡ Space m box → IsSession k files s
+    → (answer : List ℕ) × IsAnswer m box answer × (text.items ≡ k.text.items ++ answer) → IsNext c number line s (record { world = k.world; text = text }) files
+next-of-space c number line m box k s files text refine space is given =
+    subst (λ (x : Command). IsNext x number line s (record { world = k.world; text = text }) files) (sym refine)
+    (subst (λ (l : Line). IsNext Refine number l s (record { world = k.world; text = text }) files) (sym space) (space-answered number m box k s files text is given))
