@@ -1,7 +1,8 @@
 // What a script has come to, and what a line makes of it.
-ghost use Rattle.std.specs.Prelude.{◌≡◌, ◌++◌, true, OnOk, IsErrOf, option_copied};
+ghost use Rattle.std.specs.Prelude.{◌≡◌, ◌≢◌, ◌++◌, true, None, IfOk, OnOk, IsErrOf, option_copied};
 ghost use Rattle.std.specs.declared.option.Option.{Option};
-ghost use Rattle.pcm_io.specs.Shelf.{Files, HasShelfCause};
+ghost use Rattle.pcm_base.specs.model.World.{World as ModelWorld};
+ghost use Rattle.pcm_io.specs.Shelf.{Files, Stay, OthersStay, HasShelfCause};
 ghost use Rattle.pcm_io.specs.declared.shelf.ShelfError.TheVariants.{Failed, Memory};
 ghost use Rattle.pcm_line.specs.declared.line.Line.TheVariants as line_of;
 ghost use Rattle.pcm_top.specs.declared.command.Command.TheVariants.{Run};
@@ -9,7 +10,7 @@ ghost use Rattle.pcm_top.specs.declared.end.End.TheVariants.{Whole};
 ghost use Rattle.pcm_top.specs.CodeSession.{IsSession, IsNext, IsStopped, IsCut, Keeps};
 ghost use Rattle.pcm_top.specs.Alone.{s0};
 ghost use Rattle.pcm_top.specs.OneStream.{IsWorld, is_built_event, bytes_shown, moved_in};
-ghost use Rattle.pcm_top.specs.Run.{is_built, run_line as run_line_of};
+ghost use Rattle.pcm_top.specs.Run.{is_built, run_line as run_line_of, files_saved, save_answer, save_refusal};
 ghost use Rattle.pcm_top.specs.Script.{closing, has};
 ghost use Rattle.pcm_top.specs.Session.{Session as Come, begin};
 
@@ -74,7 +75,32 @@ fn event_line(
     )
 }
 
-// The frames that the card took go into a file of the shelf.
+// The frames that the card took go into a file of the shelf, unless that is refused.
+fn save_taken<F: Shelf>(
+    alloc: Global,
+    name: &Name,
+    world: &World,
+    shelf: &mut F,
+) -> Result<Reply, ShelfError>
+    requires { (w : ModelWorld) × IsWorld world.now w }
+    ensures answered { IfOk result (λ r. r ≢ Reply.Memory) }
+    ensures told { (w : ModelWorld) → IsWorld world.now w → IfOk result (λ r. r ≡ (save_answer s0 w).reply) }
+    ensures stored { (w : ModelWorld) (files : Option Files) → IsWorld world.now w → Stay files (F.files shelf.old) → OnOk result (Stay (files_saved s0 name.now w files) (F.files shelf.new)) }
+    ensures allowed { (w : ModelWorld) → IsWorld world.now w → IsErrOf result Failed → save_refusal s0 w ≡ None }
+    ensures failed { IsErrOf result Failed → OthersStay (F.files shelf.old) (F.files shelf.new) name.now }
+    ensures memory { IsErrOf result Memory → Stay (F.files shelf.old) (F.files shelf.new) }
+    ensures cause { HasShelfCause (F.faults shelf.old) (F.faults shelf.new) result }
+{
+    match file_to_save(alloc, world)? {
+        Ok(file) => {
+            shelf.store(name, &file)?;
+            Ok(Reply::Ok)
+        }
+        Err(e) => Ok(Reply::Err(e)),
+    }
+}
+
+// The line of a save.
 fn save_line<F: Shelf>(
     alloc: Global,
     number: u64,
@@ -82,18 +108,13 @@ fn save_line<F: Shelf>(
     session: &mut Session,
     shelf: &mut F,
 ) -> Result<(), ShelfError>
+    requires { (w : ModelWorld) × IsWorld session.old.world w }
     ensures ok { (s : Come) → IsSession session.old (F.files shelf.old) s → OnOk result (IsSession session.new (F.files shelf.new) (run_line_of number (line_of.Save s0 name.now) s)) }
     ensures failed { (s : Come) → IsSession session.old (F.files shelf.old) s → IsErrOf result Failed → IsStopped Run (line_of.Save s0 name.now) s session.new.text.items (F.files shelf.new) }
     ensures memory { (s : Come) → IsSession session.old (F.files shelf.old) s → IsErrOf result Memory → IsCut Run number (line_of.Save s0 name.now) s (F.files shelf.new) }
     ensures cause { HasShelfCause (F.faults shelf.old) (F.faults shelf.new) result }
 {
-    let reply = match file_to_save(alloc, &session.world)? {
-        Ok(file) => {
-            shelf.store(name, &file)?;
-            Reply::Ok
-        }
-        Err(e) => Reply::Err(e),
-    };
+    let reply = save_taken(alloc, name, &session.world, shelf)?;
     let told = session.world.still(reply);
     push_told(&mut session.text, number, &told, None)?;
     Ok(())
@@ -107,7 +128,8 @@ fn run_line<F: Shelf>(
     session: &mut Session,
     shelf: &mut F,
 ) -> Result<(), ShelfError>
-    requires { is_built line.now ≡ true }
+    requires built { is_built line.now ≡ true }
+    requires stands { (w : ModelWorld) × IsWorld session.old.world w }
     ensures ok { (s : Come) → IsSession session.old (F.files shelf.old) s → OnOk result (IsSession session.new (F.files shelf.new) (run_line_of number line.now s)) }
     ensures failed { (s : Come) → IsSession session.old (F.files shelf.old) s → IsErrOf result Failed → IsStopped Run line.now s session.new.text.items (F.files shelf.new) }
     ensures memory { (s : Come) → IsSession session.old (F.files shelf.old) s → IsErrOf result Memory → IsCut Run number line.now s (F.files shelf.new) }
@@ -138,7 +160,8 @@ pub fn answer_line<F: Shelf>(
     session: &mut Session,
     shelf: &mut F,
 ) -> Result<(), ShelfError>
-    requires { has command line.now ≡ true }
+    requires has { has command line.now ≡ true }
+    requires stands { (w : ModelWorld) × IsWorld session.old.world w }
     ensures ok { (s : Come) → IsSession session.old (F.files shelf.old) s → OnOk result (IsNext command number line.now s session.new (F.files shelf.new)) }
     ensures failed { (s : Come) → IsSession session.old (F.files shelf.old) s → IsErrOf result Failed → IsStopped command line.now s session.new.text.items (F.files shelf.new) }
     ensures memory { (s : Come) → IsSession session.old (F.files shelf.old) s → IsErrOf result Memory → IsCut command number line.now s (F.files shelf.new) }
