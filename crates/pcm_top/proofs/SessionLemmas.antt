@@ -1,5 +1,5 @@
 -- What a line of `run` makes of a session, and the end of its text.
-use Rattle.std.proofs.Common.{◌≡◌, ℕ, ◌+◌, ◌*◌, ◌%◌, ◌^◌, ◌<◌, ◌≤◌, Bool, true, false, not, ◌&&◌, List, [], ◌∷◌, ◌++◌, length, refl, sym, ◌∙◌, ap, subst, inl, inr, Vec, Global, Result, Ok, Err, is_ok, OnOk, min, ◌-◌, append-nil, arith, lit<, lit≤, mul_comm}
+use Rattle.std.proofs.Common.{◌≡◌, ℕ, ◌%◌, ◌^◌, ◌<◌, ◌≤◌, Bool, true, not, ◌&&◌, List, [], ◌∷◌, ◌++◌, length, refl, sym, ◌∙◌, ap, subst, inl, inr, Vec, Global, Result, Ok, Err, is_ok, OnOk, min, ◌-◌, append-nil, arith, lit<, lit≤, mul_comm}
 use Rattle.std.specs.FinMap.{get, insert}
 use Rattle.std.specs.Prelude.{if◌then◌else◌, nat_eq}
 use Rattle.std.proofs.lemmas.Bool.Decides.{nat_tests}
@@ -17,7 +17,6 @@ use Rattle.pcm_base.specs.declared.ids.SubId.{SubId}
 use Rattle.pcm_base.specs.declared.reply.Reply.{Reply}
 use Rattle.pcm_base.specs.declared.reply.Reply.TheVariants as reply
 use Rattle.pcm_base.specs.declared.reply.Told.{Told as Shown}
-use Rattle.pcm_base.specs.declared.state.Dir.TheVariants as dir
 use Rattle.pcm_base.specs.declared.state.Errno.{Errno}
 use Rattle.pcm_base.specs.declared.state.Errno.TheVariants as errno
 use Rattle.pcm_base.specs.declared.state.State.{State}
@@ -39,9 +38,8 @@ use Rattle.pcm_line.specs.declared.line.Line.TheVariants.{Save, Space}
 use Rattle.pcm_text.specs.End.{end_line}
 use Rattle.pcm_text.specs.Told.{told_line}
 use Rattle.wav_file.specs.Grammar.{CanWrite, IsWavFormat, wav_bytes}
-use Rattle.wav_file.specs.Recordings.{Recording}
 use Rattle.pcm_top.specs.Alone.{s0, alone}
-use Rattle.pcm_top.specs.CodeSession.{IsSession, IsCut, IsNext, Keeps}
+use Rattle.pcm_top.specs.CodeSession.{IsSession, IsCut, IsNext}
 use Rattle.pcm_top.specs.OneStream.{IsLone, IsWorld, is_s0, shown}
 use Rattle.pcm_top.specs.Refine.{IsAnswer}
 use Rattle.pcm_top.specs.Run.{has_wav_format, is_wav_format, save_refusal, saved_file, file_by, save_answer, files_saved, stored, run_line, end_lines, is_built}
@@ -82,11 +80,12 @@ save-refusal l w is closed wav c f =
 
 -- ---- the file of what a card took
 
-pub record IsModest (m : CardModel) : Type 0 where
-  pub some_channels : 1 ≤ m.channels.least
-  pub few_channels : m.channels.most ≤ 8
-  pub some_rate : 1 ≤ m.rate.least
-  pub rate : m.rate.most < 2 ^ 32
+-- the channels and the rates of a model are those that a WAV file can have
+record IsModest (m : CardModel) : Type 0 where
+  some_channels : 1 ≤ m.channels.least
+  few_channels : m.channels.most ≤ 8
+  some_rate : 1 ≤ m.rate.least
+  rate : m.rate.most < 2 ^ 32
 
 modest : (x : Model) → IsModest (limits_of x)
 modest model.Basic = record { some_channels = lit≤ tt; few_channels = lit≤ tt; some_rate = lit≤ tt; rate = lit< tt }
@@ -138,10 +137,10 @@ saved-file l w is c frames file has took e =
 
 -- the answer and the files, by why they are refused
 abbrev answer_by : World → Option Errno → Told
-answer_by w r = elim r [ | Some e ↦ stays (reply.Err e) (Some (state_in s0 w)) w | None ↦ stays reply.Ok (Some (state_in s0 w)) w ]
+answer_by w r = elim r [ Some e ↦ stays (reply.Err e) (Some (state_in s0 w)) w | None ↦ stays reply.Ok (Some (state_in s0 w)) w ]
 
 abbrev files_by : List ℕ → World → Option Files → Option Errno → Option Files
-files_by name w files r = elim r [ | Some e ↦ files | None ↦ stored name (saved_file (stream_in s0 w)) files ]
+files_by name w files r = elim r [ Some e ↦ files | None ↦ stored name (saved_file (stream_in s0 w)) files ]
 
 pub reply-allowed : (w : World) → save_refusal s0 w ≡ None → reply.Ok ≡ (save_answer s0 w).reply
 reply-allowed w none = ap (λ (r : Option Errno). (answer_by w r).reply) (sym none)

@@ -22,6 +22,7 @@ fn is_wav_format(format: Format) -> bool
 /// The WAV file of what the card of s0 took, or why there is none: ENXIO where s0 is closed or not declared, EINVAL where
 /// it has no configuration, or one whose format no WAV file has. This project's own.
 pub fn file_to_save(alloc: Global, world: &World) -> Result<Result<Vec<u8>, Errno>, AllocError>
+    // Of a world that stands for some, the card's model bounds the channels and the rate, and a WAV file can have them.
     requires { (w : ModelWorld) × IsWorld world.now w }
     ensures { (w : ModelWorld) → IsWorld world.now w
         → IfOk result (λ r. MatchResult r (λ file. (save_refusal s0 w ≡ None) × (file.items ≡ saved_file (stream_in s0 w))) (λ e. save_refusal s0 w ≡ Some e)) }

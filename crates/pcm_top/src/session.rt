@@ -161,6 +161,7 @@ pub fn answer_line<F: Shelf>(
     shelf: &mut F,
 ) -> Result<(), ShelfError>
     requires has { has command line.now ≡ true }
+    // The world stands for some world of the model, as that of each session does: a save asks it.
     requires stands { (w : ModelWorld) × IsWorld session.old.world w }
     ensures ok { (s : Come) → IsSession session.old (F.files shelf.old) s → OnOk result (IsNext command number line.now s session.new (F.files shelf.new)) }
     ensures failed { (s : Come) → IsSession session.old (F.files shelf.old) s → IsErrOf result Failed → IsStopped command line.now s session.new.text.items (F.files shelf.new) }

@@ -34,8 +34,7 @@ returns-in-Ok c w is =
     let opened = ap is_closed (sym (c.state.ensures one.stream one.stands)) ∙ sym (is-closed c.state.result c.eq.result c.eq.ensures) ∙ c.if-eq.false in
     let wav = ap has_wav_format has ∙ sym c.is_wav_format.ensures ∙ c.if-is_wav_format.true in
     let copied = c.in_ok-to_vec-in-Some-config.ensures.items_if_clones_equal (λ x y h. h) in
-    let frames = copied ∙ c.taken.ensures ∙ c.card.ensures.taken one.stream one.stands in
-    (
+    let frames = copied ∙ c.taken.ensures ∙ c.card.ensures.taken one.stream one.stands in (
       save-refusal c.in-Some.lone w one false true opened wav,
       saved-file c.in-Some.lone w one config c.in_ok-to_vec-in-Some-config.field-0.items c.in-Ok.file.items has frames c.in-Ok.ensures.bytes,
     )

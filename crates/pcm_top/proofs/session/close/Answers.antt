@@ -1,4 +1,4 @@
-use Rattle.std.proofs.Common.{◌≡◌, ◌∙◌, sym, ap, ℕ, List}
+use Rattle.std.proofs.Common.{◌∙◌, sym, ap, ℕ}
 use Rattle.pcm_base.specs.declared.reply.Page.{Page}
 use Rattle.pcm_base.specs.model.Events.{page}
 use Rattle.pcm_text.specs.End.{end_line}
