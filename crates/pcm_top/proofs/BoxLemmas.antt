@@ -1,8 +1,7 @@
 -- The least box has a spelling, and its line stands behind the text.
-use Rattle.std.proofs.Common.{◌≡◌, ℕ, ◌+◌, ◌*◌, ◌/◌, ◌%◌, ◌^◌, ◌<◌, ◌≤◌, ◌==◌, Bool, true, false, List, [], ◌∷◌, ◌++◌, Option, None, Some, refl, sym, ◌∙◌, ap, subst, inl, inr, arith, eq-eqb, lit<, append_assoc, append-nil, length, Result, Ok, Err, is_ok, OnOk}
+use Rattle.std.proofs.Common.{◌≡◌, ℕ, ◌+◌, ◌*◌, ◌/◌, ◌%◌, ◌^◌, ◌<◌, ◌≤◌, Bool, List, [], ◌∷◌, ◌++◌, sym, ◌∙◌, ap, subst, inl, inr, arith, lit<, append_assoc, Result, Ok, Err, is_ok, OnOk}
 use Rattle.std.specs.Prelude.{if◌then◌else◌}
 use Rattle.std.specs.declared.alloc.AllocError.{AllocError}
-use Rattle.std.proofs.lemmas.Bool.Decides.{nat_tests}
 use Rattle.std.specs.Int.{bit_at}
 use Rattle.std.proofs.lemmas.Nat.Bits.{same_from_bits, bit_at-lt, bit_at_above, bit_at_cat_low}
 use Rattle.std.proofs.lemmas.Bool.{cases_lt}
@@ -18,15 +17,9 @@ use Rattle.pcm_base.specs.declared.format.Format.{Format}
 use Rattle.pcm_base.specs.declared.format.Format.TheVariants as format
 use Rattle.pcm_base.specs.Numbers.{access_number, format_number}
 use Rattle.pcm_base.specs.model.Allowed.{buffer_of}
-use Rattle.pcm_line.specs.declared.error.LineError.{LineError}
-use Rattle.pcm_line.specs.declared.line.Line.TheVariants.{Space}
-use Rattle.pcm_line.specs.Grammar.{IsLine}
 use Rattle.pcm_line.specs.Sayable.{IsNumber, SpanFits, SpaceFits}
-use Rattle.pcm_line.proofs.Spellings.{one-spelling, one-meaning}
-use Rattle.pcm_line.proofs.GrammarLaws.{line-no-fault, one-fault}
 use Rattle.card_emul.specs.Limits.{limits_of}
-use Rattle.hw_params.specs.Hull.{Occurs, IsMaskOf, IsSpanOf, IsHull, HasNone}
-use Rattle.hw_params.proofs.Unique.{one-hull}
+use Rattle.hw_params.specs.Hull.{Occurs, IsMaskOf, IsSpanOf, IsHull}
 
 -- ---- the numbers of a box are below 2 ^ 63
 
@@ -113,4 +106,3 @@ pub appended-twice : (old line mid : List ℕ) (b : Bool) → mid ≡ old ++ lin
 appended-twice old line mid b e =
     let whole : mid ++ 10 ∷ [] ≡ old ++ (line ++ 10 ∷ []) = rw e (append_assoc old line (10 ∷ [])) in
     ap (λ (t : List ℕ). if b then t else mid) whole
-

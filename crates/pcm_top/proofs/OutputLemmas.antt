@@ -1,5 +1,5 @@
 -- What of a run the program's call tells: what is written and stored for words that ask for a command.
-use Rattle.std.proofs.Common.{◌≡◌, ◌≤◌, ℕ, List, [], length, take, None, Some, refl, sym, ◌∙◌, ap, subst, inl, inr, arith}
+use Rattle.std.proofs.Common.{◌≡◌, ℕ, List, [], length, take, None, Some, refl, sym, subst, inl, inr, arith}
 use Rattle.std.specs.Prelude.{IfSome}
 use Rattle.std.specs.declared.option.Option.{Option}
 use Rattle.std.specs.Io.KnownBytes.{Appends}
@@ -9,8 +9,8 @@ use Rattle.pcm_top.specs.declared.command.Command.{Command}
 use Rattle.pcm_top.specs.declared.end.End.{End}
 use Rattle.pcm_top.specs.CodeSession.{IsRan, IsCutShort}
 use Rattle.pcm_top.specs.Lines.{lines_of}
-use Rattle.pcm_top.specs.Output.{IsUnwritten, IsPart, IsFront}
-use Rattle.pcm_top.specs.Script.{script_front, whole_text}
+use Rattle.pcm_top.specs.Output.{IsFront}
+use Rattle.pcm_top.specs.Script.{script_front}
 use Rattle.pcm_top.specs.Session.{begin}
 use Rattle.pcm_top.proofs.ScriptLemmas.{reaches-here}
 

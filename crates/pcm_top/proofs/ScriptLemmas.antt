@@ -25,7 +25,7 @@ use Rattle.pcm_top.specs.declared.session.Session.{Session as Kept}
 use Rattle.pcm_top.specs.CodeSession.{IsSession, IsStopped, IsCut, IsRan, IsCutShort, IsStop, StopsBy}
 use Rattle.pcm_top.specs.Lines.{lines_of, is_last}
 use Rattle.pcm_top.specs.Refine.{IsBoxLine, IsAnswer}
-use Rattle.pcm_top.specs.Script.{Answers, Halts, has, HasFault, IsAnswered, IsBad, IsHalted, byte_limit, line_limit, limit_for, LineGives, Gives, FrontGives, Reaches, closing, whole_text}
+use Rattle.pcm_top.specs.Script.{Answers, Halts, has, HasFault, IsAnswered, byte_limit, line_limit, limit_for, LineGives, Gives, FrontGives, Reaches, closing, whole_text}
 use Rattle.pcm_top.specs.Session.{Session, begin, AreFiles, AreFilesBut}
 use Rattle.pcm_top.proofs.LineLemmas.{is_feed, lines_first}
 

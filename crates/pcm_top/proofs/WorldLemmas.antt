@@ -1,5 +1,5 @@
 -- A step of a world whose one group is a stream alone, on which nobody waits.
-use Rattle.std.proofs.Common.{◌≡◌, ◌≢◌, ℕ, ◌+◌, Bool, true, false, not, ◌&&◌, List, [], ◌∷◌, ◌++◌, length, drop, refl, sym, ◌∙◌, ap, subst, nat_eq, arith, append_assoc, append-nil}
+use Rattle.std.proofs.Common.{◌≡◌, ◌≢◌, ℕ, ◌+◌, Bool, true, false, not, ◌&&◌, List, [], ◌∷◌, ◌++◌, length, drop, refl, sym, ◌∙◌, ap, subst}
 use Rattle.std.specs.Prelude.{if◌then◌else◌, nat_lt, nat_le, ◌||◌, ◌^◌, IfSome}
 use Rattle.std.proofs.lemmas.Bool.{eqb-true}
 use Rattle.std.specs.Option.{ForSome, is_some}
@@ -8,7 +8,6 @@ use Rattle.std.specs.declared.option.Option.TheVariants.{Some, None}
 use Rattle.std.proofs.Math.Seq.{drop-append_seam, drop-length, drop-nil}
 use Rattle.pcm_base.specs.declared.act.Act.{Act}
 use Rattle.pcm_base.specs.declared.act.Outcome.{Outcome}
-use Rattle.pcm_base.specs.declared.act.Outcome.TheVariants as outcome
 use Rattle.pcm_base.specs.declared.act.Vote.{Vote}
 use Rattle.pcm_base.specs.declared.act.Vote.TheVariants as vote
 use Rattle.pcm_base.specs.declared.call.Call.{Call}
@@ -27,25 +26,25 @@ use Rattle.pcm_base.specs.declared.state.Errno.TheVariants as errno
 use Rattle.pcm_base.specs.declared.state.State.{State}
 use Rattle.pcm_base.specs.declared.state.State.TheVariants as state
 use Rattle.pcm_base.specs.declared.votes.Acted.{Acted}
-use Rattle.pcm_base.specs.model.Acts.{pre, trips, after, decide, acted, members_after, votes}
+use Rattle.pcm_base.specs.model.Acts.{pre, trips, decide, acted, members_after, votes}
 use Rattle.pcm_base.specs.model.Events.{event, program, opens}
 use Rattle.pcm_base.specs.model.Frame.{Frame, bytes_of}
 use Rattle.pcm_base.specs.model.Group.{Run, run, behind, marked, mark, stream_of}
-use Rattle.pcm_base.specs.model.Movement.{Movement, move, carried, carried_frames, taken_by, given_by, taken_bytes}
+use Rattle.pcm_base.specs.model.Movement.{Movement, move, taken_by, given_by, taken_bytes}
 use Rattle.pcm_base.specs.model.Sound.{Sound, SoundAt, is_set_up}
 use Rattle.pcm_base.specs.model.Standing.{put_at}
-use Rattle.pcm_base.specs.model.Program.{Answer, Program, Ends, Makes, fails}
+use Rattle.pcm_base.specs.model.Program.{Program, Ends, Makes, fails}
 use Rattle.pcm_base.specs.model.Sleep.{wake, woken, group_drains, sleepers_that}
 use Rattle.pcm_base.specs.model.Stream.{Stream, Member, Waiting}
 use Rattle.pcm_base.specs.model.Words.{is_closed}
-use Rattle.pcm_base.specs.model.World.{World, InProgress, Told, stays, state_in, group_of, holds, lone, set_long, declare, told_bytes, kept_bytes, calls_after, in_group, chosen, named, is_go, begun, by_client, nobody, step}
+use Rattle.pcm_base.specs.model.World.{World, InProgress, Told, stays, state_in, group_of, holds, lone, set_long, declare, told_bytes, kept_bytes, calls_after, in_group, chosen, named, is_go, begun, nobody, step}
 use Rattle.card_emul.specs.Limits.{limits_of}
-use Rattle.pcm_stream.specs.StandsFor.{StandsFor, card_of}
+use Rattle.pcm_stream.specs.StandsFor.{StandsFor}
 use Rattle.pcm_stream.proofs.MoveLemmas.{bytes_of-append}
 use Rattle.pcm_top.specs.declared.world.Lone.{Lone}
 use Rattle.pcm_top.specs.declared.world.World.{World as OneStream}
 use Rattle.pcm_top.specs.Alone.{s0, alone, vote_alone, outcome_by, after_alone, Ended, ended}
-use Rattle.pcm_top.specs.OneStream.{IsWorld, IsLone, is_built_call, is_built_event, is_s0, bytes_shown, moved_in, taken_since}
+use Rattle.pcm_top.specs.OneStream.{IsWorld, IsLone, is_built_call, is_built_event, is_s0, bytes_shown}
 use Rattle.pcm_top.proofs.AloneLemmas.{IsSameSubstream}
 
 -- ---- the one vote decides
@@ -206,7 +205,7 @@ step_named None e io n s h = refl
 pub step_open : (o : Option ClientId) (e : Call) (io : List ℕ) (n : ℕ) (s : Stream) → is_built_call e ≡ true → (is_closed s.state && not (opens e)) ≡ false
     → (ended (event e (client_or_nobody o) false io s)).reply ≢ reply.Asleep
     → (let x = ended (event e (client_or_nobody o) false io s) in
-       step (world_of n s) (on_s0 o e) io ≡ told_alone x.reply (told_bytes e (client_or_nobody o) x.reply s [] x.frames) x.stream n)
+    step (world_of n s) (on_s0 o e) io ≡ told_alone x.reply (told_bytes e (client_or_nobody o) x.reply s [] x.frames) x.stream n)
 step_open o e io n s built is_open awake =
     let c = client_or_nobody o in
     let w = world_of n s in
@@ -289,8 +288,8 @@ pub declare_again : (k : SubId) (m : CardModel) (d : Dir) (w : World) (s : Strea
 declare_again k m d w s first one =
     ap (λ (j : SubId). declare j m d w) (is_first k first)
     ∙ ap (λ (gs : List (List Member)).
-        if holds s0 (group_of s0 gs) then stays (reply.Err errno.Ebusy) (Some (stream_of s0 (group_of s0 gs)).state) w
-        else stays reply.Ok (Some state.Closed) (record w { groups = gs ++ lone s0 m d w.long_max ∷ [] })) one
+    if holds s0 (group_of s0 gs) then stays (reply.Err errno.Ebusy) (Some (stream_of s0 (group_of s0 gs)).state) w
+    else stays reply.Ok (Some state.Closed) (record w { groups = gs ++ lone s0 m d w.long_max ∷ [] })) one
 
 one_in : (o : Option Lone) (w : World) → is_some o ≡ true → ForSome o (λ l. IsLone l w) → (s : Stream) × (w.groups ≡ alone s ∷ [])
 one_in (Some l) w h k = ((k l refl).stream, (k l refl).groups)

@@ -13,7 +13,6 @@ use Rattle.pcm_base.specs.declared.call.Mode.TheVariants as mode
 use Rattle.pcm_base.specs.declared.ids.SubId.{SubId}
 use Rattle.pcm_base.specs.declared.reply.Told.{Told as Shown}
 use Rattle.pcm_base.specs.declared.state.Dir.TheVariants as dir
-use Rattle.pcm_base.specs.model.Program.{Program}
 use Rattle.pcm_base.specs.model.Sleep.{mask_of}
 use Rattle.pcm_base.specs.model.Stream.{Stream}
 use Rattle.pcm_base.specs.model.World.{World, Told}
@@ -21,7 +20,7 @@ use Rattle.card_emul.specs.Limits.{limits_of}
 use Rattle.pcm_stream.specs.StandsFor.{StandsFor, card_of}
 use Rattle.pcm_top.specs.declared.world.Lone.{Lone}
 use Rattle.pcm_top.specs.declared.world.World.{World as OneStream}
-use Rattle.pcm_top.specs.Alone.{s0, alone, ended}
+use Rattle.pcm_top.specs.Alone.{alone}
 
 -- a non-blocking interleaved write
 abbrev pub is_plain_write : Layout → Mode → Bool

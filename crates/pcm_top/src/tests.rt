@@ -226,7 +226,7 @@ fn a_status_names_what_failed(rt: HostRuntime) -> Result<(), Fail> {
         assert_eq!(rt; ran.status, status);
         assert!(rt; ran.stays);
         assert_eq!(rt; ran.file.is_some(), stored);
-        if let Some(file) = ran.file {
+        if let Some(file) = &ran.file {
             assert_eq!(rt; file.as_slice(), SAVED);
         }
         if told.is_empty() {

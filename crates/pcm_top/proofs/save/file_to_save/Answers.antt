@@ -1,7 +1,4 @@
 use Rattle.std.proofs.Common.{◌≡◌, ◌∙◌, refl, sym, ap, subst, true, false, ℕ, List, length, ◌%◌}
-use Rattle.std.specs.declared.option.Option.{Option}
-use Rattle.std.specs.declared.option.Option.TheVariants.{Some, None}
-use Rattle.pcm_base.specs.declared.config.Config.{Config}
 use Rattle.pcm_base.specs.model.Words.{is_closed}
 use Rattle.pcm_top.specs.Run.{has_wav_format}
 use Rattle.pcm_top.proofs.SessionLemmas.{is-closed, save-refusal, lone-can-write, saved-file}

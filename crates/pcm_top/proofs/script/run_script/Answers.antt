@@ -1,4 +1,4 @@
-use Rattle.std.proofs.Common.{◌≡◌, ◌+◌, ◌++◌, ℕ, List, [], arith, refl, sym, ◌∙◌, ap, subst, length, None, nat_lt}
+use Rattle.std.proofs.Common.{◌≡◌, ◌++◌, ℕ, List, arith, refl, sym, ◌∙◌, ap, length, None, nat_lt}
 use Rattle.std.specs.Prelude.{Bool, Err}
 use Rattle.pcm_io.specs.declared.shelf.ShelfError.{ShelfError}
 use Rattle.pcm_top.specs.declared.end.End.TheVariants.{Whole}

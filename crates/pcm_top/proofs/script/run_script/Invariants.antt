@@ -1,4 +1,4 @@
-use Rattle.std.proofs.Common.{ℕ, List, ◌≡◌, ◌≤◌, length}
+use Rattle.std.proofs.Common.{◌≡◌, ◌≤◌, length}
 use Rattle.pcm_top.specs.declared.end.End.{End}
 use Rattle.pcm_top.specs.CodeSession.{IsSession}
 use Rattle.pcm_top.specs.Lines.{lines_of}

@@ -1,4 +1,3 @@
-use Rattle.std.proofs.Common.{◌≡◌, ◌∙◌, sym, ap, subst}
 use Rattle.pcm_top.proofs.SessionLemmas.{reply-allowed, reply-refused, files-allowed, files-refused}
 use Rattle.pcm_top.proofs.session.save_taken.Goals as goal
 

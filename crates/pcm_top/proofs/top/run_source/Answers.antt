@@ -1,7 +1,7 @@
-use Rattle.std.proofs.Common.{◌≡◌, ℕ, List, refl, sym, ◌∙◌, subst}
+use Rattle.std.proofs.Common.{ℕ, List, refl, ◌∙◌, subst}
 use Rattle.pcm_top.specs.declared.end.End.{End}
 use Rattle.pcm_top.specs.declared.end.End.TheVariants.{Whole}
-use Rattle.pcm_top.specs.CodeSession.{IsRan, IsCutShort}
+use Rattle.pcm_top.specs.CodeSession.{IsRan}
 use Rattle.pcm_top.specs.Script.{script_front, FrontGives}
 use Rattle.pcm_top.specs.Session.{begin}
 use Rattle.pcm_top.proofs.OutputLemmas.{if-some-all, if-some-map, none-executed}
@@ -17,7 +17,7 @@ pub returns-in-Ok-clause-ran : goal.returns-in-Ok-clause-ran
 returns-in-Ok-clause-ran g c =
     if-some-map _ _ (g.S.Source.left c.args.source.now)
     (λ script front. subst (λ (bytes : List ℕ). IsRan c.args.command bytes (g.F.Shelf.files c.args.shelf.now) (g.F.Shelf.files c.run_script.new.shelf) c.in-Ok.ran.text.items c.in-Ok.ran.ended)
-        (c.deref.ensures.value ∙ front) c.in-Ok.ensures.ran)
+    (c.deref.ensures.value ∙ front) c.in-Ok.ensures.ran)
     c.in_ok-script.ensures.front
 
 pub returns-in-Ok-clause-ended : goal.returns-in-Ok-clause-ended

@@ -1,7 +1,6 @@
 -- Where s0 is declared, the world has a group.
-use Rattle.std.proofs.Common.{ap, ◌∙◌, sym, subst, Some, ◌≡◌, Option, true}
-use Rattle.std.specs.Option.{is_some}
-use Rattle.pcm_base.specs.model.World.{World as ModelWorld, Told, set_long as set_long_of}
+use Rattle.std.proofs.Common.{ap, ◌∙◌, sym, subst}
+use Rattle.pcm_base.specs.model.World.{Told}
 use Rattle.pcm_top.specs.OneStream.{IsWorld, shown}
 use Rattle.pcm_top.proofs.WorldLemmas.{set_long_late, one_stream}
 use Rattle.pcm_top.proofs.world.World.set_long.Goals as goal

@@ -1,5 +1,5 @@
 -- The code's step is that of the model: on a closed substream nothing happens, else the event is made on the one stream.
-use Rattle.std.proofs.Common.{ap, ◌∙◌, sym, refl, ◌≡◌, ◌≢◌, Some, List, [], ℕ, length}
+use Rattle.std.proofs.Common.{ap, ◌∙◌, sym, refl, ◌≡◌, ◌≢◌, Some, [], length}
 use Rattle.pcm_base.specs.declared.reply.Reply.{Reply}
 use Rattle.pcm_base.specs.declared.reply.Reply.TheVariants as reply
 use Rattle.pcm_base.specs.declared.reply.Told.{Told as Shown}
@@ -65,7 +65,7 @@ returns-clause-world c = λ w is not_memory.
     let same_step = step_reaching w e io l.stream c.requires.built l.groups is.calls reached awake in
     let x = ended_on e io l.stream in
     let next = IsLone-after c.in-Some.lone c.make-reply.new.self w l w.long_max x.stream c.make-reply.ensures.model
-        (same_substream e.call (client_or_nobody e.client) io l.stream (built_of_event e c.requires.built)) end.stands in
+    (same_substream e.call (client_or_nobody e.client) io l.stream (built_of_event e c.requires.built)) end.stands in
     IsWorld-after _ c.make-reply.new.self w e io (told_alone x.reply (bytes_told e io l.stream) x.stream w.long_max) same_step refl is.long_max refl next
 
 pub returns-clause-memory : goal.returns-clause-memory
