@@ -15,10 +15,11 @@ SPACE = 'space basic 8 4 2 2 1 200000 1 65536 2 32 4 65536\nspace studio 27 1092
 
 
 def long_writes(size):
-    """Half a buffer is written, moved and reported, over and over: so many bytes of script."""
+    """A buffer is written; then half of it is moved, reported and written, over and over: so many bytes of script."""
     part = bytes(i * 7 % 251 for i in range(32768)).hex()
-    turn = f'writei c0 s0 n {part}\nmove s0 32768\nirq s0\n'
-    return OPENED + turn * ((size - len(OPENED)) // len(turn))
+    first = f'writei c0 s0 n {part}{part}\n'
+    turn = f'move s0 32768\nirq s0\nwritei c0 s0 n {part}\n'
+    return OPENED + first + turn * ((size - len(OPENED) - len(first)) // len(turn))
 
 
 def short_lines(count):
