@@ -1,7 +1,9 @@
 -- What a line of `run` makes of a session, and the end of its text.
-use Rattle.std.proofs.Common.{◌≡◌, ℕ, ◌%◌, ◌^◌, ◌<◌, ◌≤◌, Bool, true, not, ◌&&◌, List, [], ◌∷◌, ◌++◌, length, refl, sym, ◌∙◌, ap, subst, inl, inr, Vec, Global, Result, Ok, Err, is_ok, OnOk, min, ◌-◌, append-nil, arith, lit<, lit≤, mul_comm}
+use Rattle.std.proofs.Common.{◌≡◌, ℕ, ◌%◌, ◌^◌, ◌<◌, ◌≤◌, Bool, true, false, not, ◌&&◌, List, [], ◌∷◌, ◌++◌, length, refl, sym, ◌∙◌, ap, subst, inl, inr, Vec, Global, Result, Ok, Err, is_ok, OnOk, min, ◌-◌, append-nil, append_assoc, zero, suc, add-one, arith, lit<, lit≤, mul_comm}
 use Rattle.std.specs.FinMap.{get, insert}
-use Rattle.std.specs.Prelude.{if◌then◌else◌, nat_eq}
+use Rattle.std.specs.List.{flat_map, range_with_len}
+use Rattle.std.specs.Prelude.{if◌then◌else◌, nat_eq, nat_lt, nat_le, ◌||◌, ◌+◌}
+use Rattle.std.proofs.lemmas.Grind.{flat_map-append}
 use Rattle.std.proofs.lemmas.Bool.Decides.{nat_tests}
 use Rattle.std.specs.declared.alloc.AllocError.{AllocError}
 use Rattle.std.specs.declared.option.Option.{Option}
@@ -14,6 +16,8 @@ use Rattle.pcm_base.specs.declared.config.Space.{Space as Box}
 use Rattle.pcm_base.specs.declared.format.Format.{Format}
 use Rattle.pcm_base.specs.declared.format.Format.TheVariants as format
 use Rattle.pcm_base.specs.declared.ids.SubId.{SubId}
+use Rattle.pcm_base.specs.declared.state.Dir.{Dir}
+use Rattle.pcm_base.specs.declared.state.Dir.TheVariants as dir
 use Rattle.pcm_base.specs.declared.reply.Reply.{Reply}
 use Rattle.pcm_base.specs.declared.reply.Reply.TheVariants as reply
 use Rattle.pcm_base.specs.declared.reply.Told.{Told as Shown}
@@ -25,11 +29,12 @@ use Rattle.pcm_base.specs.contracts.state.State as state_contract
 use Rattle.pcm_base.specs.Numbers.{sample_bytes}
 use Rattle.pcm_base.specs.model.Allowed.{accepts, frame_bytes_of}
 use Rattle.pcm_base.specs.model.Frame.{bytes_of}
-use Rattle.pcm_base.specs.model.Sound.{SoundAt, IsConfigured}
+use Rattle.pcm_base.specs.model.Group.{stream_of}
+use Rattle.pcm_base.specs.model.Sound.{Sound, SoundAt, IsConfigured}
 use Rattle.pcm_base.specs.model.Events.{page}
-use Rattle.pcm_base.specs.model.Stream.{Stream, Member}
+use Rattle.pcm_base.specs.model.Stream.{Stream, Member, fresh, no_stream}
 use Rattle.pcm_base.specs.model.Words.{when, ◌then◌, is_closed, is_playback}
-use Rattle.pcm_base.specs.model.World.{World, Told, InProgress, stream_in, state_in, stays}
+use Rattle.pcm_base.specs.model.World.{World, Told, holds, group_of, lone, is_declared, set_long, declare, stream_in, state_in, stays}
 use Rattle.card_emul.specs.Limits.{limits_of}
 use Rattle.pcm_io.specs.Shelf.{Files, Stay, Stores, OthersStay}
 use Rattle.pcm_laws.proofs.Sizes.{accepts-allows}
@@ -38,22 +43,70 @@ use Rattle.pcm_line.specs.declared.line.Line.TheVariants.{Save, Space}
 use Rattle.pcm_text.specs.End.{end_line}
 use Rattle.pcm_text.specs.Told.{told_line}
 use Rattle.wav_file.specs.Grammar.{CanWrite, IsWavFormat, wav_bytes}
-use Rattle.pcm_top.specs.Alone.{s0, alone}
-use Rattle.pcm_top.specs.CodeSession.{IsSession, IsCut, IsNext}
-use Rattle.pcm_top.specs.OneStream.{IsLone, IsWorld, is_s0, shown}
+use Rattle.pcm_top.specs.CodeSession.{IsSession, IsCut, IsNext, Keeps}
+use Rattle.pcm_top.specs.OneStream.{IsWorld, shown}
 use Rattle.pcm_top.specs.Refine.{IsAnswer}
-use Rattle.pcm_top.specs.Run.{has_wav_format, is_wav_format, save_refusal, saved_file, file_by, save_answer, files_saved, stored, run_line, end_lines, is_built}
+use Rattle.pcm_top.specs.Run.{has_wav_format, is_wav_format, save_refusal, saved_file, file_by, save_answer, files_saved, stored, run_line, tells, end_line_of, is_built}
 use Rattle.pcm_top.specs.Session.{Session, AreFilesBut}
 use Rattle.pcm_top.specs.declared.command.Command.{Command}
 use Rattle.pcm_top.specs.declared.command.Command.TheVariants.{Run, Refine}
 use Rattle.pcm_top.specs.declared.session.Session.{Session as Kept}
-use Rattle.pcm_top.specs.declared.world.Lone.{Lone}
+use Rattle.pcm_top.specs.declared.world.World.{World as OneStream}
 use denote.Enum.Bare.{sameb}
 
--- ---- what stands in a world of one stream
+-- ---- what a world shows of a substream
 
-pub stream_alone : (s : Stream) (w : World) → w.groups ≡ alone s ∷ [] → stream_in s0 w ≡ s
-stream_alone s w e = rw e
+-- a substream that is not declared is closed
+nowhere : (k : SubId) (ms : List Member) → false ≡ holds k ms → state.Closed ≡ (stream_of k ms).state
+nowhere k [] h = refl
+nowhere k (m ∷ ms) h = by (nat_eq m.sub.0 k.0) h (nowhere k ms)
+  where
+    by : (b : Bool) → false ≡ (b || holds k ms) → (false ≡ holds k ms → state.Closed ≡ (stream_of k ms).state) → state.Closed ≡ (if b then m.stream else stream_of k ms).state
+    by true h others = cc
+    by false h others = others h
+
+pub state-undeclared : (k : SubId) (w : World) → false ≡ is_declared k w → state.Closed ≡ state_in k w
+state-undeclared k w h = nowhere k (group_of k w.groups) h
+
+-- a group behind the others holds the substream, where none of them does
+group-behind : (k : SubId) (gs : List (List Member)) (g : List Member) → holds k (group_of k gs) ≡ false → group_of k (gs ++ g ∷ []) ≡ group_of k (g ∷ [])
+group-behind k [] g h = refl
+group-behind k (f ∷ gs) g h = by (holds k f) refl h (group-behind k gs g)
+  where
+    by : (b : Bool) → holds k f ≡ b → holds k (if b then f else group_of k gs) ≡ false → (holds k (group_of k gs) ≡ false → group_of k (gs ++ g ∷ []) ≡ group_of k (g ∷ []))
+        → (if b then f else group_of k (gs ++ g ∷ [])) ≡ group_of k (g ∷ [])
+    by true e h others = (let q : true ≡ false = sym e ∙ h in cc)
+    by false e h others = others h
+
+number-eq : (n : ℕ) → nat_eq n n ≡ true
+number-eq n = grind (arith, nat_tests)
+
+-- a card that was declared is closed
+pub declared-state : (k : SubId) (m : CardModel) (d : Dir) (n : ℕ) (gs : List (List Member)) → holds k (group_of k gs) ≡ false → (stream_of k (group_of k (gs ++ lone k m d n ∷ []))).state ≡ state.Closed
+declared-state k m d n gs h =
+    ap (λ (g : List Member). (stream_of k g).state) (group-behind k gs (lone k m d n) h)
+    ∙ ap (λ (b : Bool). (stream_of k (if b || false then lone k m d n else [])).state) (number-eq k.0)
+    ∙ ap (λ (b : Bool). (if b then fresh m d n else no_stream).state) (number-eq k.0)
+
+-- a declaration shows the substream's state after it
+pub declare-shows : (k : SubId) (m : CardModel) (d : Dir) (w : World) → record { reply = (declare k m d w).reply; state = Some (state_in k (declare k m d w).world); woken = 0 } ≡ shown (declare k m d w)
+declare-shows k m d w = by (is_declared k w) refl
+  where
+    by : (b : Bool) → is_declared k w ≡ b
+        → (let t : Told = if b then stays (reply.Err errno.Ebusy) (Some (state_in k w)) w else stays reply.Ok (Some state.Closed) (record w { groups = w.groups ++ lone k m d w.long_max ∷ [] }) in
+        record { reply = t.reply; state = Some (state_in k t.world); woken = 0 } ≡ shown t)
+    by true e = refl
+    by false e = ap (λ (x : State). let r : Shown = record { reply = reply.Ok; state = Some x; woken = 0 } in r) (declared-state k m d w.long_max w.groups e)
+
+-- LONG_MAX names no substream
+pub set_long-shows : (n : ℕ) (w : World) → record { reply = (set_long n w).reply; state = None; woken = 0 } ≡ shown (set_long n w)
+set_long-shows n w = by (nat_lt 0 (length w.groups)) (nat_lt n 15 || nat_le (2 ^ 36) n)
+  where
+    by : (a b : Bool) → (let t : Told = if a then stays (reply.Err errno.Ebusy) None w else if b then stays (reply.Err errno.Einval) None w else stays reply.Ok None (record w { long_max = n }) in
+        record { reply = t.reply; state = None; woken = 0 } ≡ shown t)
+    by true b = refl
+    by false true = refl
+    by false false = refl
 
 pub is-closed : (x : State) (b : Bool) → b ≡ sameb state_contract.the_type x state.Closed → b ≡ is_closed x
 is-closed state.Closed b e = e
@@ -66,17 +119,30 @@ is-closed state.Draining b e = e
 is-closed state.Paused b e = e
 is-closed state.Suspended b e = e
 
+-- ---- a line of an answer without bytes
+
+pub tells-ok : (r : Result (Unit {0}) AllocError) (world : OneStream) (number : ℕ) (told : Shown) (t : Told) (s : Session) (old : List ℕ) (text : Vec ℕ Global)
+    → OnOk r (text.items ≡ old ++ told_line number told None) → told ≡ shown t → old ≡ s.text → IsWorld world t.world
+    → OnOk r (Keeps (record { world = world; text = text }) (tells number t None s))
+tells-ok (Ok u) world number told t s old text line e same is =
+    record { world = is; text = line ∙ ap (λ (l : List ℕ). l ++ told_line number told None) same ∙ ap (λ (x : Shown). s.text ++ told_line number x None) e }
+tells-ok (Err x) world number told t s old text line e same is = tt
+
 -- ---- why what a card took is stored, or not
 
 abbrev refusal_by : Bool → Bool → Option Errno
-refusal_by closed wav = when closed errno.Enxio then when (not wav) errno.Einval
+refusal_by closed savable = when closed errno.Enxio then when (not savable) errno.Einval
 
-pub save-refusal : (l : Lone) (w : World) (is : IsLone l w) (closed wav : Bool) → is_closed is.stream.state ≡ closed → has_wav_format is.stream.setup.config ≡ wav
-    → save_refusal s0 w ≡ refusal_by closed wav
-save-refusal l w is closed wav c f =
-    let s = is.stream in
-    ap (λ (t : Stream). when (is_closed t.state) errno.Enxio then when (not (is_playback t.dir && has_wav_format t.setup.config)) errno.Einval) (stream_alone s w is.groups)
-    ∙ rw (c, is.dir, f) refl
+pub save-refusal : (k : SubId) (w : World) (closed savable : Bool) → is_closed (state_in k w) ≡ closed → (is_playback (stream_in k w).dir && has_wav_format (stream_in k w).setup.config) ≡ savable
+    → save_refusal k w ≡ refusal_by closed savable
+save-refusal k w closed savable c f =
+    ap (λ (a : Bool). when a errno.Enxio then when (not (is_playback (stream_in k w).dir && has_wav_format (stream_in k w).setup.config)) errno.Einval) c
+    ∙ ap (λ (b : Bool). when closed errno.Enxio then when (not b) errno.Einval) f
+
+-- no configuration, no file
+pub unset-savable : (d : Dir) (o : Option Config) → o ≡ None → (is_playback d && has_wav_format o) ≡ false
+unset-savable dir.Playback o e = ap has_wav_format e
+unset-savable dir.Capture o e = refl
 
 -- ---- the file of what a card took
 
@@ -118,35 +184,34 @@ can-write x n c frames h f whole =
       whole = rw (mul_comm c.channels (sample_bytes c.format)) whole;
     }
 
-pub lone-can-write : (l : Lone) (w : World) (is : IsLone l w) (c : Config) (frames : List ℕ) → is.stream.setup.config ≡ Some c → is_wav_format c.format ≡ true
-    → length frames % is.stream.setup.frame_bytes ≡ 0 → CanWrite (record { format = c.format; channels = c.channels; rate = c.rate; frames = frames })
-lone-can-write l w is c frames has f whole =
-    let s = is.stream in
-    let set : IsConfigured c s = subst (λ (o : Option Config). SoundAt o s) has is.stands.sound in
+pub stream-can-write : (x : Model) (s : Stream) (c : Config) (frames : List ℕ) → s.model ≡ limits_of x → Sound s → s.setup.config ≡ Some c → is_wav_format c.format ≡ true
+    → length frames % s.setup.frame_bytes ≡ 0 → CanWrite (record { format = c.format; channels = c.channels; rate = c.rate; frames = frames })
+stream-can-write x s c frames named sound has f whole =
+    let set : IsConfigured c s = subst (λ (o : Option Config). SoundAt o s) has sound in
     let shaped = set.shaped in
-    can-write l.model s.long_max c frames
-    (subst (λ (m : CardModel). accepts m s.long_max c ≡ true) is.model shaped.allowed) f
+    can-write x s.long_max c frames
+    (subst (λ (m : CardModel). accepts m s.long_max c ≡ true) named shaped.allowed) f
     (subst (λ (k : ℕ). length frames % k ≡ 0) shaped.frame_bytes whole)
 
-pub saved-file : (l : Lone) (w : World) (is : IsLone l w) (c : Config) (frames file : List ℕ) → is.stream.setup.config ≡ Some c → frames ≡ bytes_of is.stream.card.taken
-    → file ≡ wav_bytes (record { format = c.format; channels = c.channels; rate = c.rate; frames = frames }) → file ≡ saved_file (stream_in s0 w)
-saved-file l w is c frames file has took e =
-    e ∙ ap (λ (k : List ℕ). file_by (Some c) k) took ∙ ap (λ (o : Option Config). file_by o (bytes_of is.stream.card.taken)) (sym has) ∙ ap saved_file (sym (stream_alone is.stream w is.groups))
+pub saved-file : (s : Stream) (c : Config) (frames file : List ℕ) → s.setup.config ≡ Some c → frames ≡ bytes_of s.card.taken
+    → file ≡ wav_bytes (record { format = c.format; channels = c.channels; rate = c.rate; frames = frames }) → file ≡ saved_file s
+saved-file s c frames file has took e =
+    e ∙ ap (λ (k : List ℕ). file_by (Some c) k) took ∙ ap (λ (o : Option Config). file_by o (bytes_of s.card.taken)) (sym has)
 
 -- ---- what a save answers and stores
 
 -- the answer and the files, by why they are refused
-abbrev answer_by : World → Option Errno → Told
-answer_by w r = elim r [ Some e ↦ stays (reply.Err e) (Some (state_in s0 w)) w | None ↦ stays reply.Ok (Some (state_in s0 w)) w ]
+abbrev answer_by : SubId → World → Option Errno → Told
+answer_by k w r = elim r [ Some e ↦ stays (reply.Err e) (Some (state_in k w)) w | None ↦ stays reply.Ok (Some (state_in k w)) w ]
 
-abbrev files_by : List ℕ → World → Option Files → Option Errno → Option Files
-files_by name w files r = elim r [ Some e ↦ files | None ↦ stored name (saved_file (stream_in s0 w)) files ]
+abbrev files_by : SubId → List ℕ → World → Option Files → Option Errno → Option Files
+files_by k name w files r = elim r [ Some e ↦ files | None ↦ stored name (saved_file (stream_in k w)) files ]
 
-pub reply-allowed : (w : World) → save_refusal s0 w ≡ None → reply.Ok ≡ (save_answer s0 w).reply
-reply-allowed w none = ap (λ (r : Option Errno). (answer_by w r).reply) (sym none)
+pub reply-allowed : (k : SubId) (w : World) → save_refusal k w ≡ None → reply.Ok ≡ (save_answer k w).reply
+reply-allowed k w none = ap (λ (r : Option Errno). (answer_by k w r).reply) (sym none)
 
-pub reply-refused : (w : World) (e : Errno) → save_refusal s0 w ≡ Some e → reply.Err e ≡ (save_answer s0 w).reply
-reply-refused w e some = ap (λ (r : Option Errno). (answer_by w r).reply) (sym some)
+pub reply-refused : (k : SubId) (w : World) (e : Errno) → save_refusal k w ≡ Some e → reply.Err e ≡ (save_answer k w).reply
+reply-refused k w e some = ap (λ (r : Option Errno). (answer_by k w r).reply) (sym some)
 
 pub stays-along : (files before now : Option Files) → Stay files before → Stay before now → Stay files now
 stays-along None before now a b = tt
@@ -166,21 +231,21 @@ stores-along (Some f) None now name bytes a b = absurd a
 stores-along (Some f) (Some g) None name bytes a b = absurd b
 stores-along (Some f) (Some g) (Some h) name bytes a b = b ∙ ap (λ (x : Files). insert x name bytes) a
 
-pub files-allowed : (name bytes : List ℕ) (w : World) (files before now : Option Files) → save_refusal s0 w ≡ None → bytes ≡ saved_file (stream_in s0 w)
-    → Stay files before → Stores before now name bytes → Stay (files_saved s0 name w files) now
-files-allowed name bytes w files before now none file a b =
-    subst (λ (r : Option Errno). Stay (files_by name w files r) now) (sym none)
+pub files-allowed : (k : SubId) (name bytes : List ℕ) (w : World) (files before now : Option Files) → save_refusal k w ≡ None → bytes ≡ saved_file (stream_in k w)
+    → Stay files before → Stores before now name bytes → Stay (files_saved k name w files) now
+files-allowed k name bytes w files before now none file a b =
+    subst (λ (r : Option Errno). Stay (files_by k name w files r) now) (sym none)
     (subst (λ (l : List ℕ). Stay (stored name l files) now) file (stores-along files before now name bytes a b))
 
-pub files-refused : (name : List ℕ) (w : World) (files now : Option Files) (e : Errno) → save_refusal s0 w ≡ Some e → Stay files now → Stay (files_saved s0 name w files) now
-files-refused name w files now e some a = subst (λ (r : Option Errno). Stay (files_by name w files r) now) (sym some) a
+pub files-refused : (k : SubId) (name : List ℕ) (w : World) (files now : Option Files) (e : Errno) → save_refusal k w ≡ Some e → Stay files now → Stay (files_saved k name w files) now
+files-refused k name w files now e some a = subst (λ (r : Option Errno). Stay (files_by k name w files r) now) (sym some) a
 
-pub world-save : (w : World) → (save_answer s0 w).world ≡ w
-world-save w = elim (save_refusal s0 w) as (λ (r : Option Errno). (answer_by w r).world ≡ w) [ Some e ↦ refl | None ↦ refl ]
+pub world-save : (k : SubId) (w : World) → (save_answer k w).world ≡ w
+world-save k w = elim (save_refusal k w) as (λ (r : Option Errno). (answer_by k w r).world ≡ w) [ Some e ↦ refl | None ↦ refl ]
 
-pub shown-save : (w : World) → record { reply = (save_answer s0 w).reply; state = Some (state_in s0 w); woken = 0 } ≡ shown (save_answer s0 w)
-shown-save w =
-    elim (save_refusal s0 w) as (λ (r : Option Errno). record { reply = (answer_by w r).reply; state = Some (state_in s0 w); woken = 0 } ≡ shown (answer_by w r))
+pub shown-save : (k : SubId) (w : World) → record { reply = (save_answer k w).reply; state = Some (state_in k w); woken = 0 } ≡ shown (save_answer k w)
+shown-save k w =
+    elim (save_refusal k w) as (λ (r : Option Errno). record { reply = (answer_by k w r).reply; state = Some (state_in k w); woken = 0 } ≡ shown (answer_by k w r))
     [ Some e ↦ refl | None ↦ refl ]
 
 -- ---- the session behind a line
@@ -201,28 +266,28 @@ cut-untouched c number line k s files is = record {
 }
 
 -- the file was stored, and then memory was wanting
-pub save-cut : (number : ℕ) (name : List ℕ) (s : Session) (now : Option Files) → s.lost ≡ None → Stay (files_saved s0 name s.world s.files) now → IsCut Run number (Save s0 name) s now
-save-cut number name s now none stay = record {
-  last = run_line number (Save s0 name) s;
-  reached = inr (refl, refl);
-  shelf = subst (λ (l : Option (List ℕ)). AreFilesBut l (files_saved s0 name s.world s.files) now) (sym none) stay;
+pub save-cut : (number : ℕ) (k : SubId) (name : List ℕ) (s : Session) (now : Option Files) → is_built (Save k name) ≡ true → s.lost ≡ None → Stay (files_saved k name s.world s.files) now → IsCut Run number (Save k name) s now
+save-cut number k name s now own none stay = record {
+  last = run_line number (Save k name) s;
+  reached = inr (own, refl);
+  shelf = subst (λ (l : Option (List ℕ)). AreFilesBut l (files_saved k name s.world s.files) now) (sym none) stay;
 }
 
 -- the line of a save stands behind the text
-save-text : (number : ℕ) (w : World) (told : Shown) (r : Reply) (old text now : List ℕ) → told ≡ record { reply = r; state = Some (state_in s0 w); woken = 0 } → r ≡ (save_answer s0 w).reply
-    → old ≡ text → now ≡ old ++ told_line number told None → now ≡ text ++ told_line number (shown (save_answer s0 w)) None
-save-text number w told r old text now t answer same line =
+save-text : (number : ℕ) (k : SubId) (w : World) (told : Shown) (r : Reply) (old text now : List ℕ) → told ≡ record { reply = r; state = Some (state_in k w); woken = 0 } → r ≡ (save_answer k w).reply
+    → old ≡ text → now ≡ old ++ told_line number told None → now ≡ text ++ told_line number (shown (save_answer k w)) None
+save-text number k w told r old text now t answer same line =
     line ∙ ap (λ (l : List ℕ). l ++ told_line number told None) same
-    ∙ ap (λ (x : Shown). text ++ told_line number x None) (t ∙ ap (λ (x : Reply). record { reply = x; state = Some (state_in s0 w); woken = 0 }) answer ∙ shown-save w)
+    ∙ ap (λ (x : Shown). text ++ told_line number x None) (t ∙ ap (λ (x : Reply). record { reply = x; state = Some (state_in k w); woken = 0 }) answer ∙ shown-save k w)
 
-pub save-session : (k : Kept) (number : ℕ) (name : List ℕ) (s : Session) (files now : Option Files) (told : Shown) (r : Reply) (text : Vec ℕ Global)
-    → IsSession k files s → Stay (files_saved s0 name s.world s.files) now
-    → told ≡ record { reply = r; state = Some (state_in s0 s.world); woken = 0 } → r ≡ (save_answer s0 s.world).reply → text.items ≡ k.text.items ++ told_line number told None
-    → IsSession (record { world = k.world; text = text }) now (run_line number (Save s0 name) s)
-save-session k number name s files now told r text is stay t answer line = record {
+pub save-session : (kept : Kept) (number : ℕ) (k : SubId) (name : List ℕ) (s : Session) (files now : Option Files) (told : Shown) (r : Reply) (text : Vec ℕ Global)
+    → IsSession kept files s → Stay (files_saved k name s.world s.files) now
+    → told ≡ record { reply = r; state = Some (state_in k s.world); woken = 0 } → r ≡ (save_answer k s.world).reply → text.items ≡ kept.text.items ++ told_line number told None
+    → IsSession (record { world = kept.world; text = text }) now (run_line number (Save k name) s)
+save-session kept number k name s files now told r text is stay t answer line = record {
   keeps = record {
-    world = subst (λ (w : World). IsWorld k.world w) (sym (world-save s.world)) is.keeps.world;
-    text = save-text number s.world told r k.text.items s.text text.items t answer is.keeps.text line;
+    world = subst (λ (w : World). IsWorld kept.world w) (sym (world-save k s.world)) is.keeps.world;
+    text = save-text number k s.world told r kept.text.items s.text text.items t answer is.keeps.text line;
   };
   none_lost = is.none_lost;
   shelf = stay;
@@ -230,30 +295,38 @@ save-session k number name s files now told r text is stay t answer line = recor
 
 -- ---- the end of the text
 
-end-of-one : (n : ℕ) (calls : List InProgress) (s : Stream) → end_lines (record { long_max = n; groups = alone s ∷ []; calls = calls }) ≡ end_line s0 (page s) (min s.moved (2 ^ 64 - 1)) ++ []
-end-of-one n calls s = refl
+-- the lines of the first n substreams
+abbrev pub ends_below : World → ℕ → List ℕ
+ends_below w n = flat_map (end_line_of w) (range_with_len 0 n)
 
-end-of-none : (n : ℕ) (calls : List InProgress) → end_lines (record { long_max = n; groups = []; calls = calls }) ≡ []
-end-of-none n calls = refl
+range-last : (a n : ℕ) → range_with_len a (suc n) ≡ range_with_len a n ++ (a + n) ∷ []
+range-last a zero = ap (λ (k : ℕ). k ∷ []) (omega arith)
+range-last a (suc n) =
+    let shifted : a + 1 + n ≡ a + suc n = omega arith in
+    ap (λ (l : List ℕ). a ∷ l) (range-last (a + 1) n ∙ ap (λ (k : ℕ). range_with_len (a + 1) n ++ k ∷ []) shifted)
 
-pub end-alone : (s : Stream) (w : World) → w.groups ≡ alone s ∷ [] → end_line s0 (page s) (min s.moved (2 ^ 64 - 1)) ≡ end_lines w
-end-alone s w e =
-    sym (ap (λ (g : List (List Member)). end_lines (record { long_max = w.long_max; groups = g; calls = w.calls })) e ∙ end-of-one w.long_max w.calls s ∙ append-nil _)
+ends-last : (w : World) (n : ℕ) → ends_below w (n + 1) ≡ ends_below w n ++ end_line_of w n
+ends-last w n =
+    let numbers : range_with_len 0 (n + 1) ≡ range_with_len 0 n ++ n ∷ [] = rw add-one (range-last 0 n ∙ ap (λ (k : ℕ). range_with_len 0 n ++ k ∷ []) (omega arith)) in
+    ap (flat_map (end_line_of w)) numbers
+    ∙ flat_map-append (end_line_of w) (range_with_len 0 n) (n ∷ [])
+    ∙ ap (λ (l : List ℕ). ends_below w n ++ l) (append-nil (end_line_of w n))
+
+-- one substream more
+pub ends-more : (w : World) (n : ℕ) (old text now : List ℕ) → text ≡ old ++ ends_below w n → now ≡ text ++ end_line_of w n → now ≡ old ++ ends_below w (n + 1)
+ends-more w n old text now before line = rw (line, before, ends-last) (append_assoc old (ends_below w n) (end_line_of w n))
+
+-- the line of a substream that is declared, and of one that is not
+pub end-declared : (k : SubId) (w : World) (line : List ℕ) → is_declared k w ≡ true → line ≡ end_line k (page (stream_in k w)) (min (stream_in k w).moved (2 ^ 64 - 1)) → line ≡ end_line_of w k.0
+end-declared k w line own e =
+    e ∙ sym (ap (λ (b : Bool). if b then end_line k (page (stream_in k w)) (min (stream_in k w).moved (2 ^ 64 - 1)) else []) own)
+
+pub end-undeclared : (k : SubId) (w : World) → is_declared k w ≡ false → end_line_of w k.0 ≡ []
+end-undeclared k w none = ap (λ (b : Bool). if b then end_line k (page (stream_in k w)) (min (stream_in k w).moved (2 ^ 64 - 1)) else []) none
 
 pub on-behind : (r : Result (Unit {0}) AllocError) (old added line new failed : List ℕ) → new ≡ (if is_ok r then old ++ added else failed) → added ≡ line → OnOk r (new ≡ old ++ line)
 on-behind (Ok u) old added line new failed e same = e ∙ ap (λ (l : List ℕ). old ++ l) same
 on-behind (Err x) old added line new failed e same = tt
-
--- ---- a save is one of s0
-
-zero-is : (n : ℕ) → nat_eq n 0 ≡ true → n ≡ 0
-zero-is n h = grind (arith, nat_tests)
-
-pub save-of-s0 : (line : Line) (k : SubId) (name : List ℕ) → is_built line ≡ true → line ≡ Save k name → Save s0 name ≡ line
-save-of-s0 line k name built is =
-    let first : is_s0 k ≡ true = subst (λ (l : Line). is_built l ≡ true) is built in
-    let number : k.0 ≡ 0 = zero-is k.0 first in
-    ap (λ (n : ℕ). Save (record { 0 = n }) name) (sym number) ∙ sym is
 
 -- ---- a space line answered
 

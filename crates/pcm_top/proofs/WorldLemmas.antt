@@ -1,7 +1,8 @@
 -- A step of a world whose one group is a stream alone, on which nobody waits.
-use Rattle.std.proofs.Common.{◌≡◌, ◌≢◌, ℕ, ◌+◌, Bool, true, false, not, ◌&&◌, List, [], ◌∷◌, ◌++◌, length, drop, refl, sym, ◌∙◌, ap, subst}
-use Rattle.std.specs.Prelude.{if◌then◌else◌, nat_lt, nat_le, ◌||◌, ◌^◌, IfSome}
+use Rattle.std.proofs.Common.{◌≡◌, ◌≢◌, ℕ, ◌+◌, Bool, true, false, not, ◌&&◌, List, [], ◌∷◌, ◌++◌, length, drop, refl, sym, ◌∙◌, ap, subst, arith}
+use Rattle.std.specs.Prelude.{if◌then◌else◌, nat_eq, nat_lt, nat_le, ◌||◌, ◌^◌, IfSome}
 use Rattle.std.proofs.lemmas.Bool.{eqb-true}
+use Rattle.std.proofs.lemmas.Bool.Decides.{nat_tests}
 use Rattle.std.specs.Option.{ForSome, is_some}
 use Rattle.std.specs.declared.option.Option.{Option}
 use Rattle.std.specs.declared.option.Option.TheVariants.{Some, None}
@@ -37,7 +38,7 @@ use Rattle.pcm_base.specs.model.Program.{Program, Ends, Makes, fails}
 use Rattle.pcm_base.specs.model.Sleep.{wake, woken, group_drains, sleepers_that}
 use Rattle.pcm_base.specs.model.Stream.{Stream, Member, Waiting}
 use Rattle.pcm_base.specs.model.Words.{is_closed}
-use Rattle.pcm_base.specs.model.World.{World, InProgress, Told, stays, state_in, group_of, holds, lone, set_long, declare, told_bytes, kept_bytes, calls_after, in_group, chosen, named, is_go, begun, nobody, step}
+use Rattle.pcm_base.specs.model.World.{World, InProgress, Told, stays, group_of, holds, lone, set_long, declare, is_declared, stream_in, told_bytes, kept_bytes, calls_after, in_group, chosen, named, is_go, begun, nobody, step}
 use Rattle.card_emul.specs.Limits.{limits_of}
 use Rattle.pcm_stream.specs.StandsFor.{StandsFor}
 use Rattle.pcm_stream.proofs.MoveLemmas.{bytes_of-append}
@@ -233,7 +234,7 @@ and_first : (a b : Bool) → (a && b) ≡ true → a ≡ true
 and_first true b h = refl
 and_first false b h = h
 
-and_second : (a b : Bool) → (a && b) ≡ true → b ≡ true
+pub and_second : (a b : Bool) → (a && b) ≡ true → b ≡ true
 and_second true b h = h
 and_second false b h = cc
 
@@ -274,8 +275,26 @@ step_refused w e io s built one no_calls is_shut =
 
 -- ---- a world in which a card is declared
 
-pub state_in_one : (w : World) (s : Stream) → w.groups ≡ alone s ∷ [] → state_in s0 w ≡ s.state
-state_in_one w s one = ap (λ (gs : List (List Member)). (stream_of s0 (group_of s0 gs)).state) one
+-- s0 is the one substream
+pub stream_in_one : (k : SubId) (w : World) (s : Stream) → k.0 ≡ 0 → w.groups ≡ alone s ∷ [] → stream_in k w ≡ s
+stream_in_one k w s zero one =
+    ap (λ (n : ℕ). let j : SubId = record { 0 = n } in stream_in j w) zero ∙ ap (λ (gs : List (List Member)). stream_of s0 (group_of s0 gs)) one
+
+pub declared_one : (k : SubId) (w : World) (s : Stream) → k.0 ≡ 0 → w.groups ≡ alone s ∷ [] → true ≡ is_declared k w
+declared_one k w s zero one =
+    sym (ap (λ (n : ℕ). let j : SubId = record { 0 = n } in is_declared j w) zero ∙ ap (λ (gs : List (List Member)). holds s0 (group_of s0 gs)) one)
+
+held_if : (b : Bool) (k : SubId) (g : List Member) → holds k g ≡ b → b ≡ false → holds k (if b then g else []) ≡ false
+held_if b k g e none = ap (λ (x : Bool). holds k (if x then g else [])) none
+
+pub declared_other : (k : SubId) (w : World) (s : Stream) → (k.0 ≡ 0 → ⊥) → w.groups ≡ alone s ∷ [] → false ≡ is_declared k w
+declared_other k w s other one =
+    let apart : nat_eq 0 k.0 ≡ false = grind (arith, nat_tests, other) in
+    let none : holds k (alone s) ≡ false = ap (λ (b : Bool). b || false) apart in
+    sym (ap (λ (gs : List (List Member)). holds k (group_of k gs)) one ∙ held_if (holds k (alone s)) k (alone s) refl none)
+
+pub declared_none : (k : SubId) (w : World) → w.groups ≡ [] → false ≡ is_declared k w
+declared_none k w none = sym (ap (λ (gs : List (List Member)). holds k (group_of k gs)) none)
 
 pub set_long_late : (n : ℕ) (w : World) (s : Stream) → w.groups ≡ alone s ∷ [] → set_long n w ≡ stays (reply.Err errno.Ebusy) None w
 set_long_late n w s one = ap (λ (gs : List (List Member)).

@@ -16,8 +16,7 @@ use Rattle.pcm_top.specs.Lines.{lines_of}
 use Rattle.pcm_top.specs.Script.{byte_limit, line_limit, script_front, FrontGives, Reaches, whole_text}
 use Rattle.pcm_top.specs.Session.{Session, begin, AreFiles}
 
--- the command that the words of a command line ask for
--- the command of one word
+-- the command of one word, and the command that the words of a command line ask for
 abbrev pub command_named : List ℕ → Option Command
 command_named word = if bytes_eq word (codes "run") then Some Run else if bytes_eq word (codes "refine") then Some Refine else None
 

@@ -1,12 +1,12 @@
 // The file of what a card took.
-ghost use Rattle.std.specs.Prelude.{◌≡◌, None, Some, IfOk, MatchResult};
+ghost use Rattle.std.specs.Prelude.{◌≡◌, ◌&&◌, None, Some, IfOk, MatchResult};
+ghost use Rattle.pcm_base.specs.model.Words.{is_playback};
 ghost use Rattle.pcm_base.specs.model.World.{World as ModelWorld, stream_in};
-ghost use Rattle.pcm_top.specs.Alone.{s0};
 ghost use Rattle.pcm_top.specs.OneStream.{IsWorld};
 ghost use Rattle.pcm_top.specs.Run.{is_wav_format as has_wav_format_of, save_refusal, saved_file};
 
 use crate::world::World;
-use pcm_base::{Card, Errno, Format, State};
+use pcm_base::{Card, Config, Dir, Errno, Format, State, SubId};
 use std::alloc::{AllocError, Global};
 use wav_file::{Wav, WavError, write_wav};
 
@@ -19,27 +19,37 @@ fn is_wav_format(format: Format) -> bool
     )
 }
 
-/// The WAV file of what the card of s0 took, or why there is none: ENXIO where s0 is closed or not declared, EINVAL where
-/// it has no configuration, or one whose format no WAV file has. This project's own.
-pub fn file_to_save(alloc: Global, world: &World) -> Result<Result<Vec<u8>, Errno>, AllocError>
-    // Of a world that stands for some, the card's model bounds the channels and the rate, and a WAV file can have them.
+// Whether frames of this configuration, that a card of this direction takes, can stand in a WAV file.
+fn is_savable(dir: Dir, config: &Config) -> bool
+    ensures { result ≡ (is_playback dir && has_wav_format_of config.now.format) }
+{
+    matches!(dir, Dir::Playback) && is_wav_format(config.format)
+}
+
+/// The WAV file of what the card of a substream took, or why there is none: ENXIO where it is closed or not declared, EINVAL
+/// on capture and where it has no configuration, or one whose format no WAV file has. This project's own.
+pub fn file_to_save(
+    alloc: Global,
+    world: &World,
+    sub: SubId,
+) -> Result<Result<Vec<u8>, Errno>, AllocError>
     requires { (w : ModelWorld) × IsWorld world.now w }
     ensures { (w : ModelWorld) → IsWorld world.now w
-        → IfOk result (λ r. MatchResult r (λ file. (save_refusal s0 w ≡ None) × (file.items ≡ saved_file (stream_in s0 w))) (λ e. save_refusal s0 w ≡ Some e)) }
+        → IfOk result (λ r. MatchResult r (λ file. (save_refusal sub w ≡ None) × (file.items ≡ saved_file (stream_in sub w))) (λ e. save_refusal sub w ≡ Some e)) }
 {
-    let Some(lone) = &world.lone else {
+    let Some(stream) = world.substream(sub) else {
         return Ok(Err(Errno::Enxio));
     };
-    if lone.stream.state() == State::Closed {
+    if stream.state() == State::Closed {
         return Ok(Err(Errno::Enxio));
     }
-    match lone.stream.config() {
-        Some(config) if is_wav_format(config.format) => {
+    match stream.config() {
+        Some(config) if is_savable(stream.dir(), config) => {
             let wav = Wav {
                 format: config.format,
                 channels: config.channels,
                 rate: config.rate,
-                frames: lone.stream.card().taken().to_vec(alloc)?,
+                frames: stream.card().taken().to_vec(alloc)?,
             };
             match write_wav(alloc, &wav) {
                 Ok(file) => Ok(Ok(file)),

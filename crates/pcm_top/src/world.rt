@@ -1,6 +1,8 @@
 // The one substream that is built, and what a step does to it.
 ghost use Rattle.std.specs.Prelude.{◌≡◌, ◌≢◌, ◌<◌, ◌^◌, ◌&&◌, not, true, false, IfSome, [], drop};
-ghost use Rattle.pcm_base.specs.model.World.{World as ModelWorld, state_in, step as step_of, set_long as set_long_of, declare as declare_of, empty};
+ghost use Rattle.std.specs.Option.{is_some};
+ghost use Rattle.pcm_base.specs.declared.config.Model.{Model as NamedModel};
+ghost use Rattle.pcm_base.specs.model.World.{World as ModelWorld, is_declared, stream_in, step as step_of, set_long as set_long_of, declare as declare_of, empty};
 ghost use Rattle.pcm_base.specs.declared.ids.ClientId.{ClientId};
 ghost use Rattle.pcm_base.specs.declared.reply.Reply.TheVariants.{Asleep, Memory};
 ghost use Rattle.pcm_base.specs.declared.state.Dir.TheVariants.{Playback};
@@ -9,7 +11,7 @@ ghost use Rattle.pcm_base.specs.model.Stream.{Stream};
 ghost use Rattle.pcm_base.specs.model.Words.{is_closed};
 ghost use Rattle.card_emul.specs.Limits.{limits_of};
 ghost use Rattle.pcm_stream.specs.StandsFor.{StandsFor, card_of};
-ghost use Rattle.pcm_top.specs.Alone.{IsEnd, ended, s0};
+ghost use Rattle.pcm_top.specs.Alone.{IsEnd, ended};
 
 mod alone;
 mod events;
@@ -39,6 +41,12 @@ impl Lone {
         ensures { (s : Stream) → StandsFor self.now.stream s → result ≡ (is_closed s.state && not (opens call)) }
     {
         self.stream.state() == State::Closed && !matches!(call, Call::OpenSub)
+    }
+
+    fn stream(&self) -> &Substream<AnyCard>
+        ensures { result.now ≡ self.now.stream }
+    {
+        &self.stream
     }
 
     fn state(&self) -> State
@@ -105,37 +113,37 @@ impl World {
 
     /// Sets LONG_MAX of the session: EBUSY where the substream is declared, then EINVAL unless it is 15 to 2^36 - 1. This
     /// project's own.
-    pub fn set_long(&mut self, n: u64) -> Told
-        ensures answered { result.reply ≢ Memory }
-        ensures told { (w : ModelWorld) → IsWorld self.old w → result ≡ shown (set_long_of n w) }
+    pub fn set_long(&mut self, n: u64) -> Reply
+        ensures answered { result ≢ Memory }
+        ensures reply { (w : ModelWorld) → IsWorld self.old w → result ≡ (set_long_of n w).reply }
         ensures world { (w : ModelWorld) → IsWorld self.old w → IsWorld self.new (set_long_of n w).world }
     {
         if self.lone.is_some() {
-            return told(Reply::Err(Errno::Ebusy), None);
+            return Reply::Err(Errno::Ebusy);
         }
         if n < 15 || n >= 1 << 36 {
-            return told(Reply::Err(Errno::Einval), None);
+            return Reply::Err(Errno::Einval);
         }
         self.long_max = n;
-        told(Reply::Ok, None)
+        Reply::Ok
     }
 
     /// Declares s0 with a card of this model, for playback; EBUSY where it is declared. This project's own.
-    pub fn declare(&mut self, sub: SubId, model: Model, dir: Dir) -> Told
+    pub fn declare(&mut self, sub: SubId, model: Model, dir: Dir) -> Reply
         requires first { is_s0 sub ≡ true }
         requires playback { dir ≡ Playback }
-        ensures answered { result.reply ≢ Memory }
-        ensures told { (w : ModelWorld) → IsWorld self.old w → result ≡ shown (declare_of sub (limits_of model) dir w) }
+        ensures answered { result ≢ Memory }
+        ensures reply { (w : ModelWorld) → IsWorld self.old w → result ≡ (declare_of sub (limits_of model) dir w).reply }
         ensures world { (w : ModelWorld) → IsWorld self.old w → IsWorld self.new (declare_of sub (limits_of model) dir w).world }
     {
-        if let Some(lone) = &self.lone {
-            return told(Reply::Err(Errno::Ebusy), Some(lone.state()));
+        if self.lone.is_some() {
+            return Reply::Err(Errno::Ebusy);
         }
         let card = AnyCard::new(self.alloc, model, dir);
         let stream = Substream::new(self.alloc, card, dir, self.long_max);
         self.lone = Some(Lone { model, stream });
         self.before = 0;
-        told(Reply::Ok, Some(State::Closed))
+        Reply::Ok
     }
 
     /// One step: an event on s0, with the bytes that were handed in. ENXIO where s0 is not declared, or closed and not opened
@@ -158,24 +166,25 @@ impl World {
         told(reply, Some(lone.state()))
     }
 
-    /// An answer that leaves the world as it is, with the state of s0.
-    pub fn still(&self, reply: Reply) -> Told
-        ensures same { result.reply ≡ reply }
-        ensures told { (w : ModelWorld) → IsWorld self.now w → result ≡ record { reply = reply; state = Some (state_in s0 w); woken = 0 } }
+    /// The substream; None exactly where it is not declared.
+    pub fn substream(&self, sub: SubId) -> Option<&Substream<AnyCard>>
+        ensures some { (w : ModelWorld) → IsWorld self.now w → IfSome result (λ s. StandsFor s.now (stream_in sub w)) }
+        ensures none { (w : ModelWorld) → IsWorld self.now w → is_some result ≡ is_declared sub w }
+        ensures model { (w : ModelWorld) → IsWorld self.now w → IfSome result (λ s. (m : NamedModel) × ((stream_in sub w).model ≡ limits_of m)) }
     {
         match &self.lone {
-            None => told(reply, Some(State::Closed)),
-            Some(lone) => told(reply, Some(lone.state())),
+            Some(lone) if sub.0 == 0 => Some(lone.stream()),
+            _ => None,
         }
     }
 
-    /// The bytes that the card took in the last event.
-    pub fn moved(&self) -> &[u8]
-        ensures { result.now ≡ moved_in self.now }
+    /// The bytes that the card of s0 took in the last event; none of any other substream.
+    pub fn moved(&self, sub: SubId) -> &[u8]
+        ensures { is_s0 sub ≡ true → result.now ≡ moved_in self.now }
     {
         match &self.lone {
-            None => &[],
-            Some(lone) => from(lone.taken(), self.before),
+            Some(lone) if sub.0 == 0 => from(lone.taken(), self.before),
+            _ => &[],
         }
     }
 }

@@ -1,20 +1,19 @@
 use Rattle.std.proofs.Common.{rules}
 use Rattle.pcm_line.specs.declared.line.Line.TheVariants.{Save}
-use Rattle.pcm_top.specs.Alone.{s0}
 use Rattle.pcm_top.specs.declared.command.Command.TheVariants.{Run}
 use Rattle.pcm_top.proofs.SessionLemmas.{cut-before, save-cut, save-session}
 use Rattle.pcm_top.proofs.session.save_line.Goals as goal
 
 pub returns-in_err-reply-clause-memory : goal.returns-in_err-reply-clause-memory
 returns-in_err-reply-clause-memory g c s is memory =
-    cut-before Run c.args.number (Save s0 c.args.name.now) c.args.session.now s (g.F.Shelf.files c.args.shelf.now) (g.F.Shelf.files c.save_taken.new.shelf) is (c.save_taken.ensures.memory (search rules))
+    cut-before Run c.args.number (Save c.args.sub c.args.name.now) c.args.session.now s (g.F.Shelf.files c.args.shelf.now) (g.F.Shelf.files c.save_taken.new.shelf) is (c.save_taken.ensures.memory (search rules))
 
 pub returns-in_err-push_told-clause-memory : goal.returns-in_err-push_told-clause-memory
 returns-in_err-push_told-clause-memory g c s is memory =
-    save-cut c.args.number c.args.name.now s (g.F.Shelf.files c.save_taken.new.shelf) is.none_lost (c.in_ok-reply.ensures.stored s.world s.files is.keeps.world is.shelf)
+    save-cut c.args.number c.args.sub c.args.name.now s (g.F.Shelf.files c.save_taken.new.shelf) c.requires.built is.none_lost (c.in_ok-reply.ensures.stored s.world s.files is.keeps.world is.shelf)
 
 pub returns-clause-ok : goal.returns-clause-ok
 returns-clause-ok g c s is =
     let world = is.keeps.world in
-    save-session c.args.session.now c.args.number c.args.name.now s (g.F.Shelf.files c.args.shelf.now) (g.F.Shelf.files c.save_taken.new.shelf) c.still-told.result c.in_ok-reply.reply
-    c.push_told.new.text is (c.in_ok-reply.ensures.stored s.world s.files world is.shelf) (c.still-told.ensures.told s.world world) (c.in_ok-reply.ensures.told s.world world) c.in_ok-push_told.ensures.ok
+    save-session c.args.session.now c.args.number c.args.sub c.args.name.now s (g.F.Shelf.files c.args.shelf.now) (g.F.Shelf.files c.save_taken.new.shelf) c.told_of-told.result c.in_ok-reply.reply
+    c.push_told.new.text is (c.in_ok-reply.ensures.stored s.world s.files world is.shelf) (c.told_of-told.ensures.told s.world world) (c.in_ok-reply.ensures.told s.world world) c.in_ok-push_told.ensures.ok
