@@ -1,5 +1,5 @@
 // What an accepted configuration sets up, until it is freed (the part of `struct snd_pcm_runtime` that hw_params fills).
-ghost use Rattle.std.specs.Prelude.{◌≡◌, ◌≤◌, ◌<◌, ◌+◌, ◌-◌, ◌*◌, ◌%◌, ◌/◌, ℕ, length, vec_len, false, IfOk, IfSome, IsSome, Some, List, slice_range, take, drop};
+ghost use Rattle.std.specs.Prelude.{◌≡◌, ◌≤◌, ◌<◌, ◌+◌, ◌-◌, ◌*◌, ◌%◌, ◌/◌, ◌^◌, ℕ, length, vec_len, false, IfOk, IfSome, IsSome, Some, List, slice_range, take, drop};
 ghost use Rattle.std.specs.Option.{ForSome};
 ghost use Rattle.pcm_base.specs.CardFacts.{gave, given_bytes};
 ghost use Rattle.pcm_base.specs.Shape.{IsSoundShape, AreFrames, count_of};
@@ -81,6 +81,7 @@ impl Runtime {
     /// The frames that a client may move.
     pub fn avail(&self, dir: Dir) -> u64
         ensures value { result ≡ avail_in dir self.now }
+        ensures bound { result < 2 ^ 36 }
         ensures model { (s : Stream) → s.dir ≡ dir → RunsFor self.now s → IsPlaced s → result ≡ avail s }
     {
         match dir {

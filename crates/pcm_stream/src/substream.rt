@@ -110,7 +110,8 @@ impl<C: Card> Substream<C> {
 
     /// The state and the pointers, all zero without a configuration.
     pub fn page(&self) -> Page
-        ensures { (s : Stream) → StandsFor self.now s → result ≡ page_of s }
+        ensures page { (s : Stream) → StandsFor self.now s → result ≡ page_of s }
+        ensures bound { result.avail < 2 ^ 36 }
     {
         match &self.runtime {
             None => Page {
@@ -131,6 +132,7 @@ impl<C: Card> Substream<C> {
     /// The sizes of the configuration, where there is one.
     pub fn shape(&self) -> Option<&Shape>
         ensures value { option_copied result ≡ shape_in self.now }
+        ensures sound { IfSome (shape_in self.now) IsSoundShape }
         ensures model { (s : Stream) → StandsFor self.now s → IfSome (shape_in self.now) (IsShapeOf s) }
         ensures none { (s : Stream) → StandsFor self.now s → IfNone (shape_in self.now) (s.setup.config ≡ None) }
     {

@@ -1,5 +1,5 @@
 -- Programs on a stream that stands alone in its group: what they answer and leave.
-use Rattle.std.proofs.Common.{◌≡◌, ℕ, ◌+◌, ◌-◌, ◌/◌, min, Bool, true, false, not, ◌||◌, cond, nat_eq, nat_le, nat_lt, List, [], ◌++◌, length, take, drop, Option, None, Some, Result, Ok, Err, MatchResult, refl, sym, ap, subst, ◌∙◌}
+use Rattle.std.proofs.Common.{◌≡◌, ◌≢◌, ℕ, ◌+◌, ◌-◌, ◌/◌, min, Bool, true, false, not, ◌||◌, cond, nat_eq, nat_le, nat_lt, List, [], ◌++◌, length, take, drop, Option, None, Some, Result, Ok, Err, MatchResult, refl, sym, ap, subst, ◌∙◌}
 use Rattle.std.proofs.lemmas.Bool.{false≢true}
 use Rattle.pcm_base.specs.declared.act.Act.{Act}
 use Rattle.pcm_base.specs.declared.act.Act.TheVariants as act
@@ -11,6 +11,7 @@ use Rattle.pcm_base.specs.declared.act.Vote.{Vote}
 use Rattle.pcm_base.specs.declared.act.Vote.TheVariants as vote
 use Rattle.pcm_base.specs.declared.call.Call.{Call}
 use Rattle.pcm_base.specs.declared.call.Call.TheVariants as call
+use Rattle.pcm_base.specs.declared.call.CallKind.{CallKind}
 use Rattle.pcm_base.specs.declared.call.CallKind.TheVariants as kind
 use Rattle.pcm_base.specs.declared.call.Layout.{Layout}
 use Rattle.pcm_base.specs.declared.call.Layout.TheVariants as layout
@@ -25,13 +26,15 @@ use Rattle.pcm_base.specs.declared.state.Dir.{Dir}
 use Rattle.pcm_base.specs.declared.state.Dir.TheVariants as dir
 use Rattle.pcm_base.specs.declared.state.Errno.{Errno}
 use Rattle.pcm_base.specs.declared.state.Errno.TheVariants as errno
+use Rattle.pcm_base.specs.declared.state.State.{State}
 use Rattle.pcm_base.specs.declared.state.State.TheVariants as state
 use Rattle.pcm_base.specs.model.Acts.{table}
 use Rattle.pcm_base.specs.model.Allowed.{accepts}
-use Rattle.pcm_base.specs.model.Events.{event, if_held, page}
+use Rattle.pcm_base.specs.model.Events.{event, drain, drain_now, delay, if_held, page}
 use Rattle.pcm_base.specs.model.Frame.{Frame}
 use Rattle.pcm_base.specs.model.Movement.{Movement, given_by, move, taken_by, taken_bytes}
-use Rattle.pcm_base.specs.model.Program.{Program, Makes, act_alone, after_found, going_on, making, or_epipe, says, unless, updated_or_epipe, updating}
+use Rattle.pcm_base.specs.model.Permit.{permit}
+use Rattle.pcm_base.specs.model.Program.{Program, Makes, act_alone, after_found, going_on, making, fails, or_epipe, says, unless, updated_or_epipe, updating}
 use Rattle.pcm_base.specs.model.Standing.{put_at}
 use Rattle.pcm_base.specs.model.Stream.{Stream, avail}
 use Rattle.pcm_base.specs.model.Transfer.{after_moves, after_start, frames_in, frames_or, is_whole, misfit, put_next, starting_halt, tells, write, write_from, write_on, write_plain}
@@ -39,10 +42,11 @@ use Rattle.pcm_base.specs.model.Update.{Refreshed, found, moved_up, settled, upd
 use Rattle.pcm_base.specs.model.Words.{◌then◌, is_closed, is_paused, is_running, is_suspended}
 use Rattle.pcm_laws.specs.Steps.{IsSameBesideActs}
 use Rattle.pcm_laws.proofs.Leaves.{IsSameBesideActs-after}
+use Rattle.state_table.specs.Cases.{answer_of}
 use Rattle.pcm_stream.specs.declared.substream.Substream.{Substream}
 use Rattle.pcm_stream.specs.StandsFor.{StandsFor}
 use Rattle.pcm_top.specs.Alone.{Ended, IsEnd, after_alone, ended, error_alone, error_by, outcome_by, refreshed, stopped_if, vote_alone}
-use Rattle.pcm_top.specs.OneStream.{is_built_call, is_plain_write}
+use Rattle.pcm_top.specs.OneStream.{is_built_call, is_nonblocking, is_plain_write}
 
 -- ---- what every built call leaves of a stream
 
@@ -118,6 +122,9 @@ Leaves-or_epipe f h updated.Nothing t = h t
 Leaves-or_epipe f h updated.DrainDone t = itself t
 Leaves-or_epipe f h updated.StopXrun t = itself t
 
+Leaves-reporting : (s : Stream) (f : Stream → Program) → ((t : Stream) → Leaves t (f t)) → Leaves s (updated_or_epipe s f)
+Leaves-reporting s f h = Leaves-updating s (or_epipe f) (Leaves-or_epipe f h)
+
 -- a write that does not wait
 
 puts_next : (fs : List Frame) (s : Stream) → IsSameSubstream s (put_next fs s)
@@ -192,6 +199,15 @@ plain_write layout.Interleaved mode.Block c io s h = unbuilt s _ h
 plain_write layout.Planar mode.NonBlock c io s h = unbuilt s _ h
 plain_write layout.Planar mode.Block c io s h = unbuilt s _ h
 
+-- a drain that is built
+nonblocking_drain : (m : Mode) (c : ClientId) (s : Stream) → is_nonblocking m ≡ true → Leaves s (drain c m s)
+nonblocking_drain mode.Block c s h = unbuilt s _ h
+nonblocking_drain mode.NonBlock c s h =
+    Leaves-unless (table kind.Drain s) s _
+    (Leaves-either (is_paused s.state) s _ _
+    (Leaves-making act.Release s (drain_now c mode.NonBlock) (λ t. Leaves-making act.Drain t (fails errno.Eagain) (λ u. itself u)))
+    (Leaves-making act.Drain s (fails errno.Eagain) (λ u. itself u)))
+
 -- No built call changes the clients that wait, the model of the card or the direction.
 pub same_substream : (e : Call) (c : ClientId) (io : List ℕ) (s : Stream) → is_built_call e ≡ true → IsSameSubstream s (ended (event e c false io s)).stream
 same_substream call.OpenSub c io s h = Leaves-either (is_closed s.state) s _ _ (record { sleepers = refl; model = refl; dir = refl }) (itself s)
@@ -206,7 +222,11 @@ same_substream call.PauseRelease c io s h = Leaves-act act.Release s
 same_substream call.Suspend c io s h = Leaves-act act.Suspend s
 same_substream call.Resume c io s h = Leaves-act act.Resume s
 same_substream call.Xrun c io s h = Leaves-unless (table kind.Xrun s) s _ (Leaves-either (is_running s.state) s _ _ (Leaves-act (act.Stop state.Xrun) s) (itself s))
+same_substream (call.Drain m) c io s h = nonblocking_drain m c s h
 same_substream (call.Write w m) c io s h = plain_write w m c io s h
+same_substream call.Hwsync c io s h = Leaves-unless (table kind.Hwsync s) s _ (Leaves-reporting s (says reply.Ok) (λ t. itself t))
+same_substream call.Delay c io s h = Leaves-unless (table kind.Delay s) s _ (Leaves-reporting s (λ t. says (delay t) t) (λ t. itself t))
+same_substream call.Poll c io s h = itself s
 same_substream call.Status c io s h = Leaves-updating s (λ u t. says (reply.Ptrs (page t)) t) (λ u t. itself t)
 same_substream call.PageNow c io s h = itself s
 same_substream (call.MoveBy n) c io s h = Leaves-move n s
@@ -281,3 +301,50 @@ IsEnd-then b p q r sub test is = IsEnd-by (cond b p q) (ended p) r sub (ap (λ (
 
 pub IsEnd-else : {C : Type 0} {g : Ghosts C} (b : Bool) (p q : Program) (r : Reply) (sub : Substream C g) → b ≡ false → IsEnd q r sub → IsEnd (cond b p q) r sub
 IsEnd-else b p q r sub test is = IsEnd-by (cond b p q) (ended q) r sub (ap (λ (d : Bool). ended (cond d p q)) test) is.answers is.stands
+
+-- an act that is done, and one that is not
+pub IsEnd-done : {C : Type 0} {g : Ghosts C} (a : Act) (s : Stream) (f : Stream → Program) (r : Reply) (sub : Substream C g) → error_alone a s ≡ None → IsEnd (f (after_alone a s)) r sub → IsEnd (making a s f) r sub
+IsEnd-done a s f r sub done is =
+    IsEnd-by (making a s f) (ended (f (after_alone a s))) r sub
+    (ended-making a s f ∙ ap (λ (o : Option Errno). elim o as (λ _. Ended) [ None ↦ ended (f (after_alone a s)) | Some e ↦ end_of (reply.Err e) (after_alone a s) ]) done) is.answers is.stands
+
+pub IsEnd-not_done : {C : Type 0} {g : Ghosts C} (a : Act) (s : Stream) (f : Stream → Program) (e : Errno) (r : Reply) (sub : Substream C g) → error_alone a s ≡ Some e → r ≡ reply.Err e → StandsFor sub (after_alone a s)
+    → IsEnd (making a s f) r sub
+IsEnd-not_done a s f e r sub refused answer stands =
+    IsEnd-by (making a s f) (end_of (reply.Err e) (after_alone a s)) r sub
+    (ended-making a s f ∙ ap (λ (o : Option Errno). elim o as (λ _. Ended) [ None ↦ ended (f (after_alone a s)) | Some d ↦ end_of (reply.Err d) (after_alone a s) ]) refused) answer stands
+
+-- an update that finds nothing, and one that ends a drain or stops the stream
+pub IsEnd-reported : {C : Type 0} {g : Ghosts C} (s : Stream) (f : Stream → Program) (r : Reply) (sub : Substream C g) → (update s).found ≡ updated.Nothing → IsEnd (f (refreshed s)) r sub → IsEnd (updated_or_epipe s f) r sub
+IsEnd-reported s f r sub none is =
+    IsEnd-by (updated_or_epipe s f) (ended (f (refreshed s))) r sub
+    (ended-updating s (or_epipe f) ∙ ap (λ (u : Updated). ended (or_epipe f u (refreshed s))) none) is.answers is.stands
+
+epipe_by : (f : Stream → Program) (u : Updated) (t : Stream) → u ≢ updated.Nothing → ended (or_epipe f u t) ≡ end_of (reply.Err errno.Epipe) t
+epipe_by f updated.Nothing t h = absurd (h refl)
+epipe_by f updated.DrainDone t h = refl
+epipe_by f updated.StopXrun t h = refl
+
+pub IsEnd-epipe : {C : Type 0} {g : Ghosts C} (s : Stream) (f : Stream → Program) (r : Reply) (sub : Substream C g) → (update s).found ≢ updated.Nothing → r ≡ reply.Err errno.Epipe → StandsFor sub (refreshed s)
+    → IsEnd (updated_or_epipe s f) r sub
+IsEnd-epipe s f r sub some answer stands =
+    IsEnd-by (updated_or_epipe s f) (end_of (reply.Err errno.Epipe) (refreshed s)) r sub (ended-updating s (or_epipe f) ∙ epipe_by f (update s).found (refreshed s) some) answer stands
+
+-- what the table says
+answered_none : (o : Option Errno) → Ok tt ≡ answer_of o → o ≡ None
+answered_none None h = refl
+answered_none (Some e) h = absurd (cc)
+
+pub permitted : (k : CallKind) (s : Stream) (t : State) (d : Dir) → Ok tt ≡ answer_of (permit k t d) → t ≡ s.state → d ≡ s.dir → table k s ≡ None
+permitted k s t d h e f = answered_none (table k s) (h ∙ ap (λ (x : State). answer_of (permit k x d)) e ∙ ap (λ (x : Dir). answer_of (permit k s.state x)) f)
+
+pub not_paused : (t : State) → t ≢ state.Paused → is_paused t ≡ false
+not_paused state.Paused h = absurd (h refl)
+not_paused _ h = refl
+
+-- an update that is the whole call
+pub IsEnd-answered : {C : Type 0} {g : Ghosts C} (s : Stream) (r : Result (Unit {0}) Errno) (q : Reply) (sub : Substream C g)
+    → MatchResult r (λ _. (update s).found ≡ updated.Nothing) (λ e. (e ≡ errno.Epipe) × ((update s).found ≢ updated.Nothing)) → MatchResult r (λ _. q ≡ reply.Ok) (λ e. q ≡ reply.Err e)
+    → StandsFor sub (refreshed s) → IsEnd (updated_or_epipe s (says reply.Ok)) q sub
+IsEnd-answered s (Ok u) q sub h k stands = IsEnd-reported s (says reply.Ok) q sub h (record { answers = k; stands = stands })
+IsEnd-answered s (Err e) q sub h k stands = IsEnd-epipe s (says reply.Ok) q sub h.1 (k ∙ ap reply.Err h.0) stands

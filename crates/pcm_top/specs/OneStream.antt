@@ -27,6 +27,10 @@ abbrev pub is_plain_write : Layout → Mode → Bool
 is_plain_write layout.Interleaved mode.NonBlock = true
 is_plain_write _ _ = false
 
+abbrev pub is_nonblocking : Mode → Bool
+is_nonblocking mode.NonBlock = true
+is_nonblocking mode.Block = false
+
 -- the calls and events of cards that are built
 abbrev pub is_built_call : Call → Bool
 is_built_call call.OpenSub = true
@@ -39,7 +43,11 @@ is_built_call call.PauseRelease = true
 is_built_call call.Suspend = true
 is_built_call call.Resume = true
 is_built_call call.Xrun = true
+is_built_call (call.Drain m) = is_nonblocking m
 is_built_call (call.Write l m) = is_plain_write l m
+is_built_call call.Hwsync = true
+is_built_call call.Delay = true
+is_built_call call.Poll = true
 is_built_call call.Status = true
 is_built_call call.PageNow = true
 is_built_call (call.MoveBy n) = true

@@ -12,8 +12,10 @@ fn is_built_call(call: Call) -> bool
     match call {
         Call::OpenSub | Call::HwParams(_) | Call::Prepare | Call::Start | Call::DropNow => true,
         Call::PausePush | Call::PauseRelease | Call::Suspend | Call::Resume | Call::Xrun => true,
+        Call::Drain(mode) => mode == Mode::NonBlock,
         Call::Write(layout, mode) => layout == Layout::Interleaved && mode == Mode::NonBlock,
-        Call::Status | Call::PageNow | Call::MoveBy(_) | Call::Irq => true,
+        Call::Hwsync | Call::Delay | Call::Status | Call::PageNow | Call::Poll => true,
+        Call::MoveBy(_) | Call::Irq => true,
         _ => false,
     }
 }

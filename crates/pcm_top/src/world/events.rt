@@ -5,18 +5,21 @@ ghost use Rattle.pcm_base.specs.declared.act.Act.TheVariants as act;
 ghost use Rattle.pcm_base.specs.declared.call.Call.TheVariants as call;
 ghost use Rattle.pcm_base.specs.declared.ids.ClientId.{ClientId};
 ghost use Rattle.pcm_base.specs.declared.reply.Reply.TheVariants.{Asleep, Memory};
-ghost use Rattle.pcm_base.specs.model.Events.{event as event_of};
+ghost use Rattle.pcm_base.specs.declared.act.Updated.TheVariants.{Nothing};
+ghost use Rattle.pcm_base.specs.declared.call.Mode.TheVariants.{NonBlock};
+ghost use Rattle.pcm_base.specs.model.Events.{event as event_of, drain_now as drain_of, delay as delay_in, poll as poll_of};
 ghost use Rattle.pcm_base.specs.model.Program.{act_alone as program_of};
-ghost use Rattle.pcm_base.specs.model.Sound.{is_stop};
+ghost use Rattle.pcm_base.specs.model.Sound.{is_set_up, is_stop};
+ghost use Rattle.pcm_base.specs.model.Update.{update as update_of};
 ghost use Rattle.pcm_base.specs.model.Stream.{Stream};
 ghost use Rattle.pcm_stream.specs.StandsFor.{StandsFor};
-ghost use Rattle.pcm_top.specs.Alone.{IsEnd, ended};
+ghost use Rattle.pcm_top.specs.Alone.{IsEnd, ended, refreshed};
 ghost use Rattle.pcm_top.specs.OneStream.{is_built_call};
 
 use crate::world::alone::{act_alone, refresh};
 use crate::world::write::write;
 use card_emul::AnyCard;
-use pcm_base::{Act, Call, CallKind, Config, Errno, Reply, State};
+use pcm_base::{Act, Call, CallKind, Config, Dir, Errno, Ready, Reply, State, Updated};
 use pcm_stream::{DmaRefusal, HwRefusal, Substream};
 use state_table::permit;
 
@@ -96,6 +99,105 @@ fn xrun(stream: &mut Substream<AnyCard>) -> Reply
     }
 }
 
+// All that was written is played; a paused substream goes on for that. The call does not wait for the end.
+fn drain(stream: &mut Substream<AnyCard>) -> Reply
+    ensures done { (c : ClientId) (s : Stream) → StandsFor stream.old s → IsEnd (event_of (call.Drain NonBlock) c false [] s) result stream.new }
+    ensures told { result ≢ Memory }
+    ensures awake { result ≢ Asleep }
+{
+    if let Err(e) = permit(CallKind::Drain, stream.state(), stream.dir()) {
+        return Reply::Err(e);
+    }
+    if let State::Paused = stream.state() {
+        if let Err(e) = act_alone(stream, Act::Release) {
+            return Reply::Err(e);
+        }
+    }
+    drain_now(stream)
+}
+
+fn drain_now(stream: &mut Substream<AnyCard>) -> Reply
+    ensures done { (c : ClientId) (s : Stream) → StandsFor stream.old s → IsEnd (drain_of c NonBlock s) result stream.new }
+    ensures told { result ≢ Memory }
+    ensures awake { result ≢ Asleep }
+{
+    match act_alone(stream, Act::Drain) {
+        Ok(()) => Reply::Err(Errno::Eagain),
+        Err(e) => Reply::Err(e),
+    }
+}
+
+// An update, and EPIPE where it ended a drain or stopped the substream.
+fn report(stream: &mut Substream<AnyCard>) -> Result<(), Errno>
+    ensures answer { (s : Stream) → StandsFor stream.old s → MatchResult result (λ _. (update_of s).found ≡ Nothing) (λ e. (e ≡ Errno.Epipe) × ((update_of s).found ≢ Nothing)) }
+    ensures stands { (s : Stream) → StandsFor stream.old s → StandsFor stream.new (refreshed s) }
+{
+    match refresh(stream) {
+        Updated::Nothing => Ok(()),
+        Updated::DrainDone | Updated::StopXrun => Err(Errno::Epipe),
+    }
+}
+
+fn hwsync(stream: &mut Substream<AnyCard>) -> Reply
+    ensures done { (c : ClientId) (s : Stream) → StandsFor stream.old s → IsEnd (event_of call.Hwsync c false [] s) result stream.new }
+    ensures told { result ≢ Memory }
+    ensures awake { result ≢ Asleep }
+{
+    match permit(CallKind::Hwsync, stream.state(), stream.dir()) {
+        Ok(()) => answer(report(stream)),
+        Err(e) => Reply::Err(e),
+    }
+}
+
+// The frames between the application and the hardware.
+fn delay_of(stream: &Substream<AnyCard>) -> i64
+    ensures { (s : Stream) → StandsFor stream.now s → is_set_up s.state ≡ true → Reply.Delay result ≡ delay_in s }
+{
+    let Some(shape) = stream.shape() else {
+        return 0;
+    };
+    let avail = stream.page().avail as i64;
+    match stream.dir() {
+        Dir::Playback => shape.buffer as i64 - avail,
+        Dir::Capture => avail,
+    }
+}
+
+fn delay(stream: &mut Substream<AnyCard>) -> Reply
+    ensures done { (c : ClientId) (s : Stream) → StandsFor stream.old s → IsEnd (event_of call.Delay c false [] s) result stream.new }
+    ensures told { result ≢ Memory }
+    ensures awake { result ≢ Asleep }
+{
+    if let Err(e) = permit(CallKind::Delay, stream.state(), stream.dir()) {
+        return Reply::Err(e);
+    }
+    match report(stream) {
+        Ok(()) => Reply::Delay(delay_of(stream)),
+        Err(e) => Reply::Err(e),
+    }
+}
+
+// Whether a transfer could go on.
+fn poll(stream: &Substream<AnyCard>) -> Reply
+    ensures done { (s : Stream) → StandsFor stream.now s → result ≡ poll_of s }
+    ensures told { result ≢ Memory }
+    ensures awake { result ≢ Asleep }
+{
+    let avail = stream.page().avail;
+    let wanted = match stream.sw() {
+        Some(sw) => sw.avail_min,
+        None => 0,
+    };
+    let ready = match (stream.state(), stream.dir()) {
+        (State::Prepared | State::Running | State::Paused, _) if wanted <= avail => Ready::Yes,
+        (State::Prepared | State::Running | State::Paused, _) => Ready::No,
+        (State::Draining, Dir::Playback) => Ready::No,
+        (State::Draining, Dir::Capture) if avail > 0 => Ready::Yes,
+        _ => Ready::Error,
+    };
+    Reply::Poll(ready)
+}
+
 fn status(stream: &mut Substream<AnyCard>) -> Reply
     ensures done { (c : ClientId) (s : Stream) → StandsFor stream.old s → IsEnd (event_of call.Status c false [] s) result stream.new }
     ensures told { result ≢ Memory }
@@ -146,9 +248,13 @@ pub fn event_alone(stream: &mut Substream<AnyCard>, call: Call, bytes: &[u8]) ->
         Call::Suspend => made(stream, Act::Suspend),
         Call::Resume => made(stream, Act::Resume),
         Call::Xrun => xrun(stream),
+        Call::Drain(_) => drain(stream),
         Call::Write(_, _) => write(stream, bytes),
+        Call::Hwsync => hwsync(stream),
+        Call::Delay => delay(stream),
         Call::Status => status(stream),
         Call::PageNow => Reply::Ptrs(stream.page()),
+        Call::Poll => poll(stream),
         Call::MoveBy(n) => move_by(stream, n),
         Call::Irq => irq(stream),
         _ => unreachable!(),

@@ -3,8 +3,8 @@ use Rattle.pcm_base.specs.model.Stream.{avail, shown}
 use Rattle.pcm_stream.proofs.StreamLemmas.{configured, page-configured, same_page, shown-as}
 use Rattle.pcm_stream.proofs.substream.Substream.page.Goals as goal
 
-pub returns-in-Some : goal.returns-in-Some
-returns-in-Some g c s h =
+pub returns-in-Some-clause-page : goal.returns-in-Some-clause-page
+returns-in-Some-clause-page g c s h =
     let runs = h.shows.runs_for c.in-Some.runtime c.in-Some.is in
     let placed = (configured c.in-Some.runtime.config s runs.config h.sound).placed in
     same_page c.args.self.now.state s.state c.in-Some.runtime.ptr.hw (shown s s.at.hw) c.in-Some.runtime.appl (shown s s.at.appl) c.avail.result (avail s)

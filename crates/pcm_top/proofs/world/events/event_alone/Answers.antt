@@ -9,12 +9,12 @@ use Rattle.pcm_base.specs.declared.call.Mode.{Mode}
 use Rattle.pcm_base.specs.declared.call.Mode.TheVariants as mode
 use Rattle.pcm_base.specs.declared.ids.ClientId.{ClientId}
 use Rattle.pcm_base.specs.declared.reply.Reply.{Reply}
-use Rattle.pcm_base.specs.model.Events.{event}
+use Rattle.pcm_base.specs.model.Events.{event, drain}
 use Rattle.pcm_base.specs.model.Stream.{Stream}
 use Rattle.pcm_base.specs.model.Transfer.{write}
 use Rattle.pcm_stream.specs.declared.substream.Substream.{Substream}
 use Rattle.pcm_top.specs.Alone.{IsEnd}
-use Rattle.pcm_top.specs.OneStream.{is_built_call, is_plain_write}
+use Rattle.pcm_top.specs.OneStream.{is_built_call, is_nonblocking, is_plain_write}
 use Rattle.pcm_top.proofs.world.events.event_alone.Goals as goal
 
 -- the event of this call
@@ -57,3 +57,19 @@ returns-in-MoveBy-clause-done c client s h w n = at_call c.args.call (call.MoveB
 
 pub returns-in-Irq-clause-done : goal.returns-in-Irq-clause-done
 returns-in-Irq-clause-done c client s h w n = at_call c.args.call call.Irq client c.args.bytes.now s c.irq.result c.irq.new.stream c.in-Irq.is (c.irq.ensures.done client s h)
+
+-- a drain that is built does not wait
+IsEnd-drain : {C : Type 0} {g : Ghosts C} (m : Mode) (c : ClientId) (s : Stream) (r : Reply) (sub : Substream C g) → is_nonblocking m ≡ true → IsEnd (drain c mode.NonBlock s) r sub → IsEnd (drain c m s) r sub
+IsEnd-drain mode.NonBlock c s r sub h is = is
+IsEnd-drain mode.Block c s r sub h is = absurd (false≢true h)
+
+pub returns-in-Drain-clause-done : goal.returns-in-Drain-clause-done
+returns-in-Drain-clause-done c client s h w n =
+    at_call c.args.call _ client c.args.bytes.now s c.drain.result c.drain.new.stream c.in-Drain.is
+    (IsEnd-drain c.in-Drain.field-0 client s c.drain.result c.drain.new.stream (subst (λ (x : Call). is_built_call x ≡ true) c.in-Drain.is c.requires) (c.drain.ensures.done client s h))
+
+pub returns-in-Hwsync-clause-done : goal.returns-in-Hwsync-clause-done
+returns-in-Hwsync-clause-done c client s h w n = at_call c.args.call call.Hwsync client c.args.bytes.now s c.hwsync.result c.hwsync.new.stream c.in-Hwsync.is (c.hwsync.ensures.done client s h)
+
+pub returns-in-Delay-clause-done : goal.returns-in-Delay-clause-done
+returns-in-Delay-clause-done c client s h w n = at_call c.args.call call.Delay client c.args.bytes.now s c.delay.result c.delay.new.stream c.in-Delay.is (c.delay.ensures.done client s h)

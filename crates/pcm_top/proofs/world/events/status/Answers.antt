@@ -11,4 +11,4 @@ pub returns-clause-done : goal.returns-clause-done
 returns-clause-done c client s h =
     let t : Stream = refreshed s in
     IsEnd-by (updating s (λ u t. says (reply.Ptrs (page t)) t)) (end_of (reply.Ptrs (page t)) t) _ _ (ended-updating s (λ u t. says (reply.Ptrs (page t)) t))
-    (ap reply.Ptrs (c.page.ensures t (c.refresh.ensures.stands s h))) (c.refresh.ensures.stands s h)
+    (ap reply.Ptrs (c.page.ensures.page t (c.refresh.ensures.stands s h))) (c.refresh.ensures.stands s h)

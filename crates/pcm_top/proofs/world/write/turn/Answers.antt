@@ -9,4 +9,4 @@ pub returns-clause-model : goal.returns-clause-model
 returns-clause-model c s config h e =
     let shape = c.in-Some.shape.now in
     let sizes : IsShapeOf s shape = subst (λ (o : Option Shape). IfSome o (IsShapeOf s)) (sym c.in-Some.ensures.value) (c.in-Some.ensures.model s h) in
-    turn-shown config s c.page-page.result c.args.rest shape.buffer c.min.result c.min-2.result e h.sound (c.page-page.ensures s h) sizes.buffer c.min.ensures c.min-2.ensures
+    turn-shown config s c.page-page.result c.args.rest shape.buffer c.min.result c.min-2.result e h.sound (c.page-page.ensures.page s h) sizes.buffer c.min.ensures c.min-2.ensures
