@@ -1,5 +1,5 @@
 -- Programs on a stream that stands alone in its group: what they answer and leave.
-use Rattle.std.proofs.Common.{◌≡◌, ◌≢◌, ℕ, ◌+◌, ◌-◌, ◌/◌, min, Bool, true, false, not, ◌||◌, cond, nat_eq, nat_le, nat_lt, List, [], ◌++◌, length, take, drop, Option, None, Some, Result, Ok, Err, MatchResult, refl, sym, ap, subst, ◌∙◌}
+use Rattle.std.proofs.Common.{◌≡◌, ◌≢◌, ℕ, ◌+◌, ◌-◌, ◌/◌, min, Bool, true, false, not, ◌&&◌, ◌||◌, cond, nat_eq, nat_le, nat_lt, List, [], ◌++◌, length, take, drop, Option, None, Some, Result, Ok, Err, MatchResult, refl, sym, ap, subst, ◌∙◌}
 use Rattle.std.proofs.lemmas.Bool.{false≢true}
 use Rattle.pcm_base.specs.declared.act.Act.{Act}
 use Rattle.pcm_base.specs.declared.act.Act.TheVariants as act
@@ -30,16 +30,17 @@ use Rattle.pcm_base.specs.declared.state.State.{State}
 use Rattle.pcm_base.specs.declared.state.State.TheVariants as state
 use Rattle.pcm_base.specs.model.Acts.{table}
 use Rattle.pcm_base.specs.model.Allowed.{accepts}
-use Rattle.pcm_base.specs.model.Events.{event, drain, drain_now, delay, if_held, page}
+use Rattle.pcm_base.specs.model.Events.{event, drain, drain_now, delay, if_held, is_busy, page}
 use Rattle.pcm_base.specs.model.Frame.{Frame}
 use Rattle.pcm_base.specs.model.Movement.{Movement, given_by, move, taken_by, taken_bytes}
 use Rattle.pcm_base.specs.model.Permit.{permit}
 use Rattle.pcm_base.specs.model.Program.{Program, Makes, act_alone, after_found, going_on, making, fails, or_epipe, says, unless, updated_or_epipe, updating}
+use Rattle.pcm_base.specs.model.Software.{refuses_sw}
 use Rattle.pcm_base.specs.model.Standing.{put_at}
 use Rattle.pcm_base.specs.model.Stream.{Stream, avail}
 use Rattle.pcm_base.specs.model.Transfer.{after_moves, after_start, frames_in, frames_or, is_whole, misfit, put_next, starting_halt, tells, write, write_from, write_on, write_plain}
 use Rattle.pcm_base.specs.model.Update.{Refreshed, found, moved_up, settled, update}
-use Rattle.pcm_base.specs.model.Words.{◌then◌, is_closed, is_paused, is_running, is_suspended}
+use Rattle.pcm_base.specs.model.Words.{when, ◌then◌, is_closed, is_paused, is_running, is_suspended}
 use Rattle.pcm_laws.specs.Steps.{IsSameBesideActs}
 use Rattle.pcm_laws.proofs.Leaves.{IsSameBesideActs-after}
 use Rattle.state_table.specs.Cases.{answer_of}
@@ -211,6 +212,10 @@ nonblocking_drain mode.NonBlock c s h =
 -- No built call changes the clients that wait, the model of the card or the direction.
 pub same_substream : (e : Call) (c : ClientId) (io : List ℕ) (s : Stream) → is_built_call e ≡ true → IsSameSubstream s (ended (event e c false io s)).stream
 same_substream call.OpenSub c io s h = Leaves-either (is_closed s.state) s _ _ (record { sleepers = refl; model = refl; dir = refl }) (itself s)
+same_substream call.CloseSub c io s h = Leaves-unless (when (false || nat_lt 0 s.mappings || is_busy s) errno.Ebusy) s _ (record { sleepers = refl; model = refl; dir = refl })
+same_substream call.HwFree c io s h = Leaves-unless (table kind.HwFree s then if_held s) s _ (record { sleepers = refl; model = refl; dir = refl })
+same_substream (call.SwParams w) c io s h = Leaves-unless (table kind.SwParams s then when (refuses_sw s.setup.buffer s.setup.boundary w) errno.Einval) s _ (record { sleepers = refl; model = refl; dir = refl })
+same_substream (call.FailAt k) c io s h = Leaves-either (nat_le 1 k && nat_le k 64) s _ _ (record { sleepers = refl; model = refl; dir = refl }) (itself s)
 same_substream (call.HwParams g) c io s h =
     Leaves-unless (table kind.HwParams s then if_held s) s _
     (Leaves-either (accepts s.model s.long_max g) s _ _ (record { sleepers = refl; model = refl; dir = refl }) (record { sleepers = refl; model = refl; dir = refl }))

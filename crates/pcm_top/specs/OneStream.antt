@@ -34,7 +34,10 @@ is_nonblocking mode.Block = false
 -- the calls and events of cards that are built
 abbrev pub is_built_call : Call → Bool
 is_built_call call.OpenSub = true
+is_built_call call.CloseSub = true
 is_built_call (call.HwParams config) = true
+is_built_call call.HwFree = true
+is_built_call (call.SwParams sw) = true
 is_built_call call.Prepare = true
 is_built_call call.Start = true
 is_built_call call.DropNow = true
@@ -52,6 +55,7 @@ is_built_call call.Status = true
 is_built_call call.PageNow = true
 is_built_call (call.MoveBy n) = true
 is_built_call call.Irq = true
+is_built_call (call.FailAt k) = true
 is_built_call _ = false
 
 abbrev pub is_s0 : SubId → Bool

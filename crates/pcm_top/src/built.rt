@@ -10,12 +10,13 @@ fn is_built_call(call: Call) -> bool
     ensures { result ≡ is_built_call_of call }
 {
     match call {
-        Call::OpenSub | Call::HwParams(_) | Call::Prepare | Call::Start | Call::DropNow => true,
+        Call::OpenSub | Call::CloseSub | Call::HwParams(_) | Call::HwFree => true,
+        Call::SwParams(_) | Call::Prepare | Call::Start | Call::DropNow => true,
         Call::PausePush | Call::PauseRelease | Call::Suspend | Call::Resume | Call::Xrun => true,
         Call::Drain(mode) => mode == Mode::NonBlock,
         Call::Write(layout, mode) => layout == Layout::Interleaved && mode == Mode::NonBlock,
         Call::Hwsync | Call::Delay | Call::Status | Call::PageNow | Call::Poll => true,
-        Call::MoveBy(_) | Call::Irq => true,
+        Call::MoveBy(_) | Call::Irq | Call::FailAt(_) => true,
         _ => false,
     }
 }

@@ -123,6 +123,21 @@ fn a_transcript_tells_each_answer(rt: HostRuntime) -> Result<(), Fail> {
             "suspend c0 s0\nwritei c0 s0 n 01\nresume c0 s0\nstart c0 s0\nxrun c0 s0\n",
             "5 ok SUSPENDED\n6 err ESTRPIPE 86 SUSPENDED\n7 ok PREPARED\n8 err EPIPE 32 PREPARED\n9 err EBADFD 77 PREPARED\nend s0 PREPARED hw 0 appl 0 moved 0\n",
         ),
+        // A planned fault meets no trigger before the start, and a drain ends where all is played.
+        (
+            "fail s0 65\nfail s0 1\nwritei c0 s0 n 01\nstart c0 s0\ndrain c0 s0 n\nmove s0 1\nirq s0\n",
+            "5 err EINVAL 22 PREPARED\n6 ok PREPARED\n7 frames 1 PREPARED\n8 ok RUNNING\n9 err EAGAIN 11 DRAINING\n10 moved 1 01 DRAINING\n11 ok SETUP\nend s0 SETUP hw 1 appl 1 moved 1\n",
+        ),
+        // The delay, and whether a transfer could go on.
+        (
+            "writei c0 s0 n 01020304\ndelay c0 s0\npoll c0 s0\nmove s0 3\nhwsync c0 s0\npoll c0 s0\n",
+            "5 frames 4 RUNNING\n6 delay 4 RUNNING\n7 poll none RUNNING\n8 moved 3 010203 RUNNING\n9 ok RUNNING\n10 poll ready RUNNING\nend s0 RUNNING hw 3 appl 4 moved 3\n",
+        ),
+        // What was set up goes, and the substream is closed.
+        (
+            "sw c0 s0 0 1 4 0 0\nstart c0 s0\nhwfree c0 s0\npoll c0 s0\nsw c0 s0 1 1 4 0 0\nclose c0 s0\nopen c1 s0\n",
+            "5 err EINVAL 22 PREPARED\n6 err EPIPE 32 PREPARED\n7 ok OPEN\n8 poll error OPEN\n9 err EBADFD 77 OPEN\n10 ok CLOSED\n11 ok OPEN\nend s0 OPEN hw 0 appl 0 moved 0\n",
+        ),
         // A configuration that the model does not allow.
         (
             "hw c0 s0 RW_INTERLEAVED S32_BE 1 8000 2 2\npage c0 s0\n",
@@ -157,6 +172,17 @@ fn a_script_may_begin_otherwise(rt: HostRuntime) -> Result<(), Fail> {
             "long 14\nlong 15\ncard s0 basic p\nopen c0 s0\nhw c0 s0 RW_INTERLEAVED U8 1 8000 2 2\n",
             0,
             "1 err EINVAL 22 -\n2 ok -\n3 ok CLOSED\n4 ok OPEN\n5 err EINVAL 22 OPEN\nend s0 OPEN hw 0 appl 0 moved 0\n",
+        ),
+        // Above the stop threshold old frames come again, or silence.
+        (
+            "long 31\ncard s0 basic p\nopen c0 s0\nhw c0 s0 RW_INTERLEAVED U8 1 8000 2 2\nprepare c0 s0\nsw c0 s0 2 1 16 0 0\nwritei c0 s0 n 01020304\nmove s0 3\nirq s0\nmove s0 3\nirq s0\n",
+            0,
+            "1 ok -\n2 ok CLOSED\n3 ok OPEN\n4 ok SETUP\n5 ok PREPARED\n6 ok PREPARED\n7 frames 4 RUNNING\n8 moved 3 010203 RUNNING\n9 ok RUNNING\n10 moved 3 040102 RUNNING\n11 ok RUNNING\nend s0 RUNNING hw 6 appl 4 moved 6\n",
+        ),
+        (
+            "long 31\ncard s0 basic p\nopen c0 s0\nhw c0 s0 RW_INTERLEAVED U8 1 8000 2 2\nprepare c0 s0\nsw c0 s0 2 1 16 0 16\nwritei c0 s0 n 01020304\nmove s0 3\nirq s0\nmove s0 3\nirq s0\n",
+            0,
+            "1 ok -\n2 ok CLOSED\n3 ok OPEN\n4 ok SETUP\n5 ok PREPARED\n6 ok PREPARED\n7 frames 4 RUNNING\n8 moved 3 010203 RUNNING\n9 ok RUNNING\n10 moved 3 048080 RUNNING\n11 ok RUNNING\nend s0 RUNNING hw 6 appl 4 moved 6\n",
         ),
         // Lines with a fault, and lines that are not built.
         ("card s0 basic p\nopen c0\n", 2, "1 ok CLOSED\n"),

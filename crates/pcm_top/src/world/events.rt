@@ -19,7 +19,7 @@ ghost use Rattle.pcm_top.specs.OneStream.{is_built_call};
 use crate::world::alone::{act_alone, refresh};
 use crate::world::write::write;
 use card_emul::AnyCard;
-use pcm_base::{Act, Call, CallKind, Config, Dir, Errno, Ready, Reply, State, Updated};
+use pcm_base::{Act, Call, CallKind, Config, Dir, Errno, Ready, Reply, State, SwParams, Updated};
 use pcm_stream::{DmaRefusal, HwRefusal, Substream};
 use state_table::permit;
 
@@ -64,6 +64,43 @@ fn hw_params(stream: &mut Substream<AnyCard>, config: &Config) -> Reply
         Err(HwRefusal::Errno(e)) => Reply::Err(e),
         Err(HwRefusal::Memory) => Reply::Memory,
     }
+}
+
+// A mapped substream stays open.
+fn close(stream: &mut Substream<AnyCard>) -> Reply
+    ensures done { (c : ClientId) (s : Stream) → StandsFor stream.old s → s.sleepers ≡ [] → IsEnd (event_of call.CloseSub c false [] s) result stream.new }
+    ensures told { result ≢ Memory }
+    ensures awake { result ≢ Asleep }
+{
+    if stream.mappings() > 0 {
+        return Reply::Err(Errno::Ebusy);
+    }
+    stream.close_sub();
+    Reply::Ok
+}
+
+fn hw_free(stream: &mut Substream<AnyCard>) -> Reply
+    ensures done { (c : ClientId) (s : Stream) → StandsFor stream.old s → s.sleepers ≡ [] → IsEnd (event_of call.HwFree c false [] s) result stream.new }
+    ensures told { result ≢ Memory }
+    ensures awake { result ≢ Asleep }
+{
+    answer(stream.hw_free(false))
+}
+
+fn sw_params(stream: &mut Substream<AnyCard>, sw: &SwParams) -> Reply
+    ensures done { (c : ClientId) (s : Stream) → StandsFor stream.old s → IsEnd (event_of (call.SwParams sw.now) c false [] s) result stream.new }
+    ensures told { result ≢ Memory }
+    ensures awake { result ≢ Asleep }
+{
+    answer(stream.sw_params(sw))
+}
+
+fn fail_at(stream: &mut Substream<AnyCard>, k: u64) -> Reply
+    ensures done { (c : ClientId) (s : Stream) → StandsFor stream.old s → IsEnd (event_of (call.FailAt k) c false [] s) result stream.new }
+    ensures told { result ≢ Memory }
+    ensures awake { result ≢ Asleep }
+{
+    answer(stream.fail_at(k))
 }
 
 // A paused or suspended substream is stopped first.
@@ -239,7 +276,10 @@ pub fn event_alone(stream: &mut Substream<AnyCard>, call: Call, bytes: &[u8]) ->
 {
     match call {
         Call::OpenSub => open(stream),
+        Call::CloseSub => close(stream),
         Call::HwParams(config) => hw_params(stream, &config),
+        Call::HwFree => hw_free(stream),
+        Call::SwParams(sw) => sw_params(stream, &sw),
         Call::Prepare => prepare(stream),
         Call::Start => made(stream, Act::Start),
         Call::DropNow => drop_now(stream),
@@ -257,6 +297,7 @@ pub fn event_alone(stream: &mut Substream<AnyCard>, call: Call, bytes: &[u8]) ->
         Call::Poll => poll(stream),
         Call::MoveBy(n) => move_by(stream, n),
         Call::Irq => irq(stream),
+        Call::FailAt(k) => fail_at(stream, k),
         _ => unreachable!(),
     }
 }
