@@ -6,6 +6,7 @@ ghost use Rattle.pcm_base.specs.model.Stream.{Stream, fresh, no_plan};
 
 mod acts;
 mod moves;
+mod params;
 
 use crate::runtime::Runtime;
 use hw_params::check;
