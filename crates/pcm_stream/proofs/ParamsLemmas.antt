@@ -1,6 +1,6 @@
 -- What the calls on a substream's parameters leave of what it stands for.
 use Rattle.std.proofs.Common.{◌≡◌, ◌%◌, true, false, refl, sym, ◌∙◌, ap}
-use Rattle.std.specs.Prelude.{Result, Ok, Err, IfErr, OnErr}
+use Rattle.std.specs.Prelude.{Bool, Result, Ok, Err, IfErr, OnErr, nat_lt}
 use Rattle.std.specs.declared.option.Option.{Option}
 use Rattle.std.specs.declared.option.Option.TheVariants.{Some, None}
 use Rattle.pcm_base.specs.declared.call.CallKind.{CallKind}
@@ -21,7 +21,7 @@ use Rattle.pcm_base.specs.model.Sound.{IsConfigured, IsPlaced}
 use Rattle.pcm_base.specs.model.Stream.{Stream}
 use Rattle.pcm_base.specs.model.Words.{when, ◌then◌}
 use Rattle.pcm_stream.specs.Runs.{RunsFor}
-use Rattle.pcm_stream.specs.SetUp.{sw_refusal}
+use Rattle.pcm_stream.specs.SetUp.{change_refusal, sw_refusal}
 use Rattle.pcm_stream.specs.StandsFor.{IsUnset, Shows, StandsFor}
 use Rattle.pcm_stream.specs.declared.runtime.Runtime.{Runtime}
 use Rattle.pcm_stream.specs.declared.substream.Substream.{Substream}
@@ -37,6 +37,14 @@ answer-none (Some x) e = absurd (cc)
 pub table-none : {C : Type 0} {g : Ghosts C} {u : Unit {0}} (k : CallKind) (sub : Substream C g) (s : Stream) → Shows sub s → Ok u ≡ answer_of (permit k sub.state sub.dir) → table k s ≡ None
 table-none k sub s h e =
     sym (ap (λ (t : State). permit k t sub.dir) h.state ∙ ap (λ (d : Dir). permit k s.state d) h.dir) ∙ answer-none (permit k sub.state sub.dir) e
+
+answer-some : (x : Option Errno) (d : Errno) → Err d ≡ answer_of x → x ≡ Some d
+answer-some None d e = absurd (cc)
+answer-some (Some x) d e = cc
+
+pub table-some : {C : Type 0} {g : Ghosts C} (k : CallKind) (sub : Substream C g) (s : Stream) (d : Errno) → Shows sub s → Err d ≡ answer_of (permit k sub.state sub.dir) → table k s ≡ Some d
+table-some k sub s d h e =
+    sym (ap (λ (t : State). permit k t sub.dir) h.state ∙ ap (λ (d : Dir). permit k s.state d) h.dir) ∙ answer-some (permit k sub.state sub.dir) d e
 
 -- ---- software parameters
 
@@ -84,3 +92,9 @@ StandsFor-set_sw {C} {g} a b w s r u one er eu shape f runs h =
       plan = λ p e. h.plan p (sym (ap (λ f. f.plan) facts) ∙ e);
       sound = sound_configured r.config (set_sw w s) config (IsConfigured-set_sw r.config w s f (configured r.config s config h.sound));
     }
+
+-- ---- the configuration
+
+-- the refusal of a change, by the table's answer
+pub change-refusal : (k : CallKind) (b : Bool) (s : Stream) (o : Option Errno) → table k s ≡ o → change_refusal k b s ≡ (o then (when (nat_lt 0 s.mappings) errno.Ebadfd then when b errno.Ebusy))
+change-refusal k b s o e = ap (λ x. x then (when (nat_lt 0 s.mappings) errno.Ebadfd then when b errno.Ebusy)) e

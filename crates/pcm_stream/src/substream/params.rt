@@ -1,6 +1,6 @@
 // The other calls that set a substream up, and take it down again.
 ghost use Rattle.std.specs.Prelude.{◌≡◌, true, false, None, Some, OnOk, OnErr, IfErr};
-ghost use Rattle.pcm_base.specs.model.Events.{set_sw};
+ghost use Rattle.pcm_base.specs.model.Events.{freed, set_sw};
 ghost use Rattle.pcm_base.specs.model.Software.{refuses_sw};
 ghost use Rattle.pcm_base.specs.model.Stream.{Stream};
 
@@ -27,7 +27,7 @@ impl Runtime {
 }
 
 impl<C: Card> Substream<C> {
-    ghost use Rattle.pcm_stream.specs.SetUp.{sw_refusal};
+    ghost use Rattle.pcm_stream.specs.SetUp.{free_refusal, sw_refusal};
     ghost use Rattle.pcm_stream.specs.StandsFor.{StandsFor, faults_of, shape_in};
 
     /// Sets the software parameters (`snd_pcm_sw_params`). Refused by the error table, then EINVAL where `check_sw` refuses
@@ -43,5 +43,17 @@ impl<C: Card> Substream<C> {
             None => Err(Errno::Ebadfd),
             Some(runtime) => runtime.set_sw(sw),
         }
+    }
+
+    /// Takes down what `hw_params` set up, with the buffer (`snd_pcm_hw_free`). Refused by the error table, EBADFD where
+    /// mapped, EBUSY where a call is in progress on it (`busy`), all with nothing changed.
+    pub fn hw_free(&mut self, busy: bool) -> Result<(), Errno>
+        ensures ok { (s : Stream) → StandsFor self.old s → OnOk result ((free_refusal busy s ≡ None) × StandsFor self.new (freed s)) }
+        ensures refused { (s : Stream) → StandsFor self.old s → IfErr result (λ e. (free_refusal busy s ≡ Some e) × StandsFor self.new s) }
+        ensures faults { faults_of self.new ≡ faults_of self.old }
+    {
+        self.change_allowed(CallKind::HwFree, busy)?;
+        self.free();
+        Ok(())
     }
 }
