@@ -1,6 +1,6 @@
 // The other calls that set a substream up, and take it down again.
-ghost use Rattle.std.specs.Prelude.{◌≡◌, true, false, None, Some, OnOk, OnErr, IfErr};
-ghost use Rattle.pcm_base.specs.model.Events.{freed, set_sw};
+ghost use Rattle.std.specs.Prelude.{◌≡◌, ◌≤◌, ◌↔◌, true, false, None, Some, IsOk, OnOk, OnErr, IfErr};
+ghost use Rattle.pcm_base.specs.model.Events.{freed, plan_set, set_sw};
 ghost use Rattle.pcm_base.specs.model.Software.{refuses_sw};
 ghost use Rattle.pcm_base.specs.model.Stream.{Stream};
 
@@ -55,5 +55,17 @@ impl<C: Card> Substream<C> {
         self.change_allowed(CallKind::HwFree, busy)?;
         self.free();
         Ok(())
+    }
+
+    /// Plans the `k`-th trigger from now that consults the card's fault plan to fail; EINVAL where `k` is not 1 to 64, with
+    /// nothing changed. This project's own.
+    pub fn fail_at(&mut self, k: u64) -> Result<(), Errno>
+        ensures ok { (s : Stream) → StandsFor self.old s → OnOk result (StandsFor self.new (plan_set k s)) }
+        ensures range { IsOk result ↔ ((1 ≤ k) × (k ≤ 64)) }
+        ensures einval { (s : Stream) → StandsFor self.old s → IfErr result (λ e. (e ≡ Errno.Einval) × StandsFor self.new s) }
+        ensures shape { shape_in self.new ≡ shape_in self.old }
+        ensures faults { faults_of self.new ≡ faults_of self.old }
+    {
+        self.card.fail_at(k)
     }
 }
