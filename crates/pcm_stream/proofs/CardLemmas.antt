@@ -8,7 +8,7 @@ use Rattle.std.proofs.Math.Nat.{mod-mod, mod_self, mul-mod_left, mul-div_cancel,
 use Rattle.std.proofs.Math.Seq.{take-append-add, drop-append-add, take-nil, drop-nil}
 use Rattle.std.proofs.lemmas.Bool.Decides.{nat_tests}
 use Rattle.std.proofs.lemmas.List.{length-replicate, replicate-append-replicate}
-use Rattle.pcm_base.specs.declared.call.CallKind.TheVariants as kind
+use Rattle.pcm_base.specs.declared.call.CallKind.{CallKind}
 use Rattle.pcm_base.specs.declared.config.Config.{Config}
 use Rattle.pcm_base.specs.declared.config.Shape.{Shape}
 use Rattle.pcm_base.specs.declared.state.Dir.TheVariants as dir
@@ -36,7 +36,7 @@ use Rattle.pcm_laws.proofs.KeptByPrograms.{IsConfigured-changed}
 use Rattle.pcm_laws.proofs.Remainders.{mod-add_same}
 use Rattle.pcm_laws.proofs.Sizes.{boundary_of-whole}
 use Rattle.pcm_stream.specs.Runs.{Keeps, RunsFor, IsNewRuntime, known, with_puts, with_count}
-use Rattle.pcm_stream.specs.SetUp.{hw_refusal, configured_by}
+use Rattle.pcm_stream.specs.SetUp.{change_refusal, configured_by}
 use Rattle.pcm_stream.specs.StandsFor.{IsUnset, StandsFor}
 use Rattle.pcm_stream.specs.Wide.{AreWide}
 use Rattle.pcm_stream.specs.declared.runtime.Runtime.{Runtime}
@@ -218,13 +218,13 @@ taken-whole {C} {g} sub s h c e = by sub.runtime h.shows.unset h.shows.runs_for
 
 -- ---- set-up
 
--- nothing is mapped where a configuration may be set up
+-- nothing is mapped where the configuration may change
 unmapped : (m : ℕ) (e : Errno) (y : Option Errno) → (when (nat_lt 0 m) e then y) ≡ None → m ≡ 0
 unmapped zero e y h = refl
 unmapped (suc m) e y h = absurd (let k : nat_lt 0 (suc m) ≡ true = grind (arith, nat_tests) in let g : (when true e then y) ≡ None = ap (λ b. when b e then y) (sym k) ∙ h in cc)
 
-pub allowed-unmapped : (b : Bool) (s : Stream) → hw_refusal b s ≡ None → s.mappings ≡ 0
-allowed-unmapped b s h = unmapped s.mappings errno.Ebadfd (when b errno.Ebusy) (then_none (table kind.HwParams s) (when (nat_lt 0 s.mappings) errno.Ebadfd then when b errno.Ebusy) h)
+pub allowed-unmapped : (k : CallKind) (b : Bool) (s : Stream) → change_refusal k b s ≡ None → s.mappings ≡ 0
+allowed-unmapped k b s h = unmapped s.mappings errno.Ebadfd (when b errno.Ebusy) (then_none (table k s) (when (nat_lt 0 s.mappings) errno.Ebadfd then when b errno.Ebusy) h)
 
 -- the runtime of an accepted configuration
 pub new-runs : (c : Config) (s : Stream) (r : Runtime) → IsNewRuntime c (shape_of c s.long_max) r → s.mappings ≡ 0 → RunsFor r (configured_by c s)

@@ -5,3 +5,4 @@ pub mod MoveLemmas
 pub mod ActsLemmas
 pub mod LayoutLemmas
 pub mod CardLemmas
+pub mod ParamsLemmas

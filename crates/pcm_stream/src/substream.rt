@@ -6,6 +6,7 @@ ghost use Rattle.pcm_base.specs.model.Stream.{Stream, fresh, no_plan};
 
 mod acts;
 mod moves;
+mod params;
 
 use crate::runtime::Runtime;
 use hw_params::check;
@@ -59,7 +60,7 @@ impl<C: Card> Substream<C> {
     ghost use Rattle.pcm_base.specs.model.Allowed.{accepts, shape_of};
     ghost use Rattle.pcm_base.specs.model.Words.{is_closed};
     ghost use Rattle.pcm_stream.specs.Runs.{IsNewRuntime};
-    ghost use Rattle.pcm_stream.specs.SetUp.{hw_refusal, configured_by};
+    ghost use Rattle.pcm_stream.specs.SetUp.{change_refusal, hw_refusal, configured_by};
     ghost use Rattle.pcm_stream.specs.StandsFor.{StandsFor, IsShapeOf, card_of, faults_of, shape_in};
 
     /// A substream that no client has opened, over a card that stands, has no frames taken and none to give, and has no
@@ -202,7 +203,7 @@ impl<C: Card> Substream<C> {
             → (hw_refusal busy s ≡ None) × (accepts s.model s.long_max config.now ≡ true) × StandsFor self.new s }
         ensures faults { faults_of self.new ≡ faults_of self.old }
     {
-        if let Err(e) = self.hw_allowed(busy) {
+        if let Err(e) = self.change_allowed(CallKind::HwParams, busy) {
             return Err(HwRefusal::Errno(e));
         }
         let shape = match check(self.card.model(), config, self.long_max) {
@@ -221,11 +222,11 @@ impl<C: Card> Substream<C> {
         }
     }
 
-    // Whether a configuration may be set up now.
-    fn hw_allowed(&self, busy: bool) -> Result<(), Errno>
-        ensures { (s : Stream) → StandsFor self.now s → MatchResult result (λ _. hw_refusal busy s ≡ None) (λ e. hw_refusal busy s ≡ Some e) }
+    // Whether a call of this kind may change the configuration now.
+    fn change_allowed(&self, kind: CallKind, busy: bool) -> Result<(), Errno>
+        ensures { (s : Stream) → StandsFor self.now s → MatchResult result (λ _. change_refusal kind busy s ≡ None) (λ e. change_refusal kind busy s ≡ Some e) }
     {
-        permit(CallKind::HwParams, self.state, self.dir)?;
+        permit(kind, self.state, self.dir)?;
         if self.mappings() > 0 {
             return Err(Errno::Ebadfd);
         }

@@ -1,4 +1,5 @@
 use Rattle.std.proofs.Common.{◌≡◌, ℕ, true, None, ◌∙◌, ap, subst}
+use Rattle.pcm_base.specs.declared.call.CallKind.TheVariants as kind
 use Rattle.pcm_base.specs.declared.config.CardModel.{CardModel}
 use Rattle.pcm_base.specs.model.Allowed.{accepts, shape_of}
 use Rattle.pcm_stream.specs.SetUp.{hw_refusal}
@@ -13,4 +14,4 @@ returns-in-Ok-new-clause-ok g c s h =
     subst (λ (m : CardModel). accepts m s.long_max c.args.config.now ≡ true) model
     (subst (λ (n : ℕ). accepts c.model.result.now n c.args.config.now ≡ true) h.shows.long_max c.in-Ok.ensures.ok) in
     let shape : c.in-Ok.shape ≡ shape_of c.args.config.now s.long_max = c.in-Ok.ensures.shape ∙ ap (shape_of c.args.config.now) h.shows.long_max in
-    (allowed, accepted, c.take_up.ensures.model s c.args.config.now h accepted shape (allowed-unmapped c.args.busy s allowed) c.in-Ok-new.ensures)
+    (allowed, accepted, c.take_up.ensures.model s c.args.config.now h accepted shape (allowed-unmapped kind.HwParams c.args.busy s allowed) c.in-Ok-new.ensures)

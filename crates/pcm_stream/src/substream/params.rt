@@ -1,0 +1,71 @@
+// The other calls that set a substream up, and take it down again.
+ghost use Rattle.std.specs.Prelude.{◌≡◌, ◌≤◌, ◌↔◌, true, false, None, Some, IsOk, OnOk, OnErr, IfErr};
+ghost use Rattle.pcm_base.specs.model.Events.{freed, plan_set, set_sw};
+ghost use Rattle.pcm_base.specs.model.Software.{refuses_sw};
+ghost use Rattle.pcm_base.specs.model.Stream.{Stream};
+
+use super::Substream;
+use crate::runtime::Runtime;
+use pcm_base::{CallKind, Card, Errno, SwParams};
+use state_table::permit;
+use sw_params::check_sw;
+
+impl Runtime {
+    ghost use Rattle.pcm_stream.specs.Runs.{RunsFor};
+
+    // Sets the software parameters; EINVAL where they are refused, with nothing changed.
+    fn set_sw(&mut self, sw: &SwParams) -> Result<(), Errno>
+        ensures shape { self.new.shape ≡ self.old.shape }
+        ensures ok { (s : Stream) → RunsFor self.old s → OnOk result ((refuses_sw s.setup.buffer s.setup.boundary sw.now ≡ false) × RunsFor self.new (set_sw sw.now s)) }
+        ensures refused { (s : Stream) → RunsFor self.old s → IfErr result (λ e. (e ≡ Errno.Einval) × (refuses_sw s.setup.buffer s.setup.boundary sw.now ≡ true)) }
+        ensures same { OnErr result (self.new ≡ self.old) }
+    {
+        check_sw(&self.shape, sw)?;
+        self.sw = *sw;
+        Ok(())
+    }
+}
+
+impl<C: Card> Substream<C> {
+    ghost use Rattle.pcm_stream.specs.SetUp.{free_refusal, sw_refusal};
+    ghost use Rattle.pcm_stream.specs.StandsFor.{StandsFor, faults_of, shape_in};
+
+    /// Sets the software parameters (`snd_pcm_sw_params`). Refused by the error table, then EINVAL where `check_sw` refuses
+    /// them, with nothing changed.
+    pub fn sw_params(&mut self, sw: &SwParams) -> Result<(), Errno>
+        ensures ok { (s : Stream) → StandsFor self.old s → OnOk result ((sw_refusal sw.now s ≡ None) × StandsFor self.new (set_sw sw.now s)) }
+        ensures refused { (s : Stream) → StandsFor self.old s → IfErr result (λ e. (sw_refusal sw.now s ≡ Some e) × StandsFor self.new s) }
+        ensures shape { shape_in self.new ≡ shape_in self.old }
+        ensures faults { faults_of self.new ≡ faults_of self.old }
+    {
+        permit(CallKind::SwParams, self.state, self.dir)?;
+        match &mut self.runtime {
+            None => Err(Errno::Ebadfd),
+            Some(runtime) => runtime.set_sw(sw),
+        }
+    }
+
+    /// Takes down what `hw_params` set up, with the buffer (`snd_pcm_hw_free`). Refused by the error table, EBADFD where
+    /// mapped, EBUSY where a call is in progress on it (`busy`), all with nothing changed.
+    pub fn hw_free(&mut self, busy: bool) -> Result<(), Errno>
+        ensures ok { (s : Stream) → StandsFor self.old s → OnOk result ((free_refusal busy s ≡ None) × StandsFor self.new (freed s)) }
+        ensures refused { (s : Stream) → StandsFor self.old s → IfErr result (λ e. (free_refusal busy s ≡ Some e) × StandsFor self.new s) }
+        ensures faults { faults_of self.new ≡ faults_of self.old }
+    {
+        self.change_allowed(CallKind::HwFree, busy)?;
+        self.free();
+        Ok(())
+    }
+
+    /// Plans the `k`-th trigger from now that consults the card's fault plan to fail; EINVAL where `k` is not 1 to 64, with
+    /// nothing changed. This project's own.
+    pub fn fail_at(&mut self, k: u64) -> Result<(), Errno>
+        ensures ok { (s : Stream) → StandsFor self.old s → OnOk result (StandsFor self.new (plan_set k s)) }
+        ensures range { IsOk result ↔ ((1 ≤ k) × (k ≤ 64)) }
+        ensures einval { (s : Stream) → StandsFor self.old s → IfErr result (λ e. (e ≡ Errno.Einval) × StandsFor self.new s) }
+        ensures shape { shape_in self.new ≡ shape_in self.old }
+        ensures faults { faults_of self.new ≡ faults_of self.old }
+    {
+        self.card.fail_at(k)
+    }
+}
