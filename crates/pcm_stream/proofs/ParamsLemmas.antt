@@ -1,8 +1,10 @@
 -- What the calls on a substream's parameters leave of what it stands for.
 use Rattle.std.proofs.Common.{◌≡◌, ◌%◌, true, false, refl, sym, ◌∙◌, ap}
-use Rattle.std.specs.Prelude.{Bool, Result, Ok, Err, IfErr, OnErr, nat_lt}
+use Rattle.std.specs.Option.{ForSome}
+use Rattle.std.specs.Prelude.{Bool, List, length, replicate, Result, Ok, Err, IfErr, OnErr, nat_lt}
 use Rattle.std.specs.declared.option.Option.{Option}
 use Rattle.std.specs.declared.option.Option.TheVariants.{Some, None}
+use Rattle.pcm_base.specs.CardFacts.{plan_cleared}
 use Rattle.pcm_base.specs.declared.call.CallKind.{CallKind}
 use Rattle.pcm_base.specs.declared.call.CallKind.TheVariants as kind
 use Rattle.pcm_base.specs.declared.card.Card.{Ghosts}
@@ -18,7 +20,7 @@ use Rattle.pcm_base.specs.model.Events.{set_sw}
 use Rattle.pcm_base.specs.model.Permit.{permit}
 use Rattle.pcm_base.specs.model.Software.{refuses_sw}
 use Rattle.pcm_base.specs.model.Sound.{IsConfigured, IsPlaced}
-use Rattle.pcm_base.specs.model.Stream.{Stream}
+use Rattle.pcm_base.specs.model.Stream.{Stream, no_plan}
 use Rattle.pcm_base.specs.model.Words.{when, ◌then◌}
 use Rattle.pcm_stream.specs.Runs.{RunsFor}
 use Rattle.pcm_stream.specs.SetUp.{change_refusal, sw_refusal}
@@ -98,3 +100,10 @@ StandsFor-set_sw {C} {g} a b w s r u one er eu shape f runs h =
 -- the refusal of a change, by the table's answer
 pub change-refusal : (k : CallKind) (b : Bool) (s : Stream) (o : Option Errno) → table k s ≡ o → change_refusal k b s ≡ (o then (when (nat_lt 0 s.mappings) errno.Ebadfd then when b errno.Ebusy))
 change-refusal k b s o e = ap (λ x. x then (when (nat_lt 0 s.mappings) errno.Ebadfd then when b errno.Ebusy)) e
+
+-- ---- fault plans
+
+-- a plan of 64 entries is emptied
+pub cleared-plan : (o : Option (List Bool)) (p : List Bool) → ForSome o (λ x. length x ≡ 64) → plan_cleared o ≡ Some p → p ≡ no_plan
+cleared-plan None p h e = absurd (cc)
+cleared-plan (Some q) p h e = let k : replicate (length q) false ≡ p = cc in sym k ∙ ap (λ n. replicate n false) (h q refl)

@@ -50,6 +50,7 @@ pub struct Substream<C: Card> {
     ghost set_up: { ForSome runtime (λ r. (C.facts card).shape ≡ Some r.shape) },
     ghost long: { long_max < 2 ^ 36 },
     ghost held: { length (C.facts card).taken ≤ 67108864 },
+    ghost planned: { ForSome (C.facts card).plan (λ plan. length plan ≡ 64) },
 }
 
 impl<C: Card> Substream<C> {

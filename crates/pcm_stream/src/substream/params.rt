@@ -1,12 +1,12 @@
 // The other calls that set a substream up, and take it down again.
 ghost use Rattle.std.specs.Prelude.{◌≡◌, ◌≤◌, ◌↔◌, true, false, None, Some, IsOk, OnOk, OnErr, IfErr};
-ghost use Rattle.pcm_base.specs.model.Events.{freed, plan_set, set_sw};
+ghost use Rattle.pcm_base.specs.model.Events.{closed, freed, plan_set, set_sw};
 ghost use Rattle.pcm_base.specs.model.Software.{refuses_sw};
 ghost use Rattle.pcm_base.specs.model.Stream.{Stream};
 
 use super::Substream;
 use crate::runtime::Runtime;
-use pcm_base::{CallKind, Card, Errno, SwParams};
+use pcm_base::{CallKind, Card, Errno, State, SwParams};
 use state_table::permit;
 use sw_params::check_sw;
 
@@ -67,5 +67,17 @@ impl<C: Card> Substream<C> {
         ensures faults { faults_of self.new ≡ faults_of self.old }
     {
         self.card.fail_at(k)
+    }
+
+    /// Closes the substream: the configuration goes, the card stops, and its lists and its fault plan are emptied
+    /// (`snd_pcm_release`; the state CLOSED is this project's own).
+    pub fn close_sub(&mut self)
+        requires unmapped { (s : Stream) → StandsFor self.old s → s.mappings ≡ 0 }
+        ensures closed { (s : Stream) → StandsFor self.old s → StandsFor self.new (closed s) }
+        ensures faults { faults_of self.new ≡ faults_of self.old }
+    {
+        self.free();
+        self.state = State::Closed;
+        self.card.clear_plan();
     }
 }
