@@ -1,5 +1,5 @@
 -- Programs on a stream that stands alone in its group: what they answer and leave.
-use Rattle.std.proofs.Common.{◌≡◌, ◌≢◌, ℕ, ◌+◌, ◌-◌, ◌/◌, min, Bool, true, false, not, ◌&&◌, ◌||◌, cond, nat_eq, nat_le, nat_lt, List, [], ◌++◌, length, take, drop, Option, None, Some, Result, Ok, Err, MatchResult, refl, sym, ap, subst, ◌∙◌}
+use Rattle.std.proofs.Common.{◌≡◌, ◌≢◌, ℕ, ◌+◌, ◌-◌, ◌/◌, min, Bool, true, false, not, ◌&&◌, ◌||◌, cond, nat_eq, nat_le, nat_lt, List, [], ◌++◌, length, take, drop, Option, None, Some, Result, Ok, Err, MatchResult, IfErr, OnOk, refl, sym, ap, subst, ◌∙◌}
 use Rattle.std.proofs.lemmas.Bool.{false≢true}
 use Rattle.pcm_base.specs.declared.act.Act.{Act}
 use Rattle.pcm_base.specs.declared.act.Act.TheVariants as act
@@ -37,7 +37,7 @@ use Rattle.pcm_base.specs.model.Permit.{permit}
 use Rattle.pcm_base.specs.model.Program.{Program, Makes, act_alone, after_found, going_on, making, fails, or_epipe, says, unless, updated_or_epipe, updating}
 use Rattle.pcm_base.specs.model.Software.{refuses_sw}
 use Rattle.pcm_base.specs.model.Standing.{put_at}
-use Rattle.pcm_base.specs.model.Stream.{Stream, avail}
+use Rattle.pcm_base.specs.model.Stream.{Stream, Waiting, avail}
 use Rattle.pcm_base.specs.model.Transfer.{after_moves, after_start, frames_in, frames_or, is_whole, misfit, put_next, starting_halt, tells, write, write_from, write_on, write_plain}
 use Rattle.pcm_base.specs.model.Update.{Refreshed, found, moved_up, settled, update}
 use Rattle.pcm_base.specs.model.Words.{when, ◌then◌, is_closed, is_paused, is_running, is_suspended}
@@ -45,6 +45,7 @@ use Rattle.pcm_laws.specs.Steps.{IsSameBesideActs}
 use Rattle.pcm_laws.proofs.Leaves.{IsSameBesideActs-after}
 use Rattle.state_table.specs.Cases.{answer_of}
 use Rattle.pcm_stream.specs.declared.substream.Substream.{Substream}
+use Rattle.pcm_stream.specs.SetUp.{change_refusal}
 use Rattle.pcm_stream.specs.StandsFor.{StandsFor}
 use Rattle.pcm_top.specs.Alone.{Ended, IsEnd, after_alone, ended, error_alone, error_by, outcome_by, refreshed, stopped_if, vote_alone}
 use Rattle.pcm_top.specs.OneStream.{is_built_call, is_nonblocking, is_plain_write}
@@ -353,3 +354,14 @@ pub IsEnd-answered : {C : Type 0} {g : Ghosts C} (s : Stream) (r : Result (Unit 
     → StandsFor sub (refreshed s) → IsEnd (updated_or_epipe s (says reply.Ok)) q sub
 IsEnd-answered s (Ok u) q sub h k stands = IsEnd-reported s (says reply.Ok) q sub h (record { answers = k; stands = stands })
 IsEnd-answered s (Err e) q sub h k stands = IsEnd-epipe s (says reply.Ok) q sub h.1 (k ∙ ap reply.Err h.0) stands
+
+-- where nobody waits, no call is in progress
+pub same_held : (k : CallKind) (s : Stream) → s.sleepers ≡ [] → (table k s then if_held s) ≡ change_refusal k false s
+same_held k s none = ap (λ (ps : List Waiting). table k s then (when (nat_lt 0 s.mappings) errno.Ebadfd then when (nat_lt 0 (length ps)) errno.Ebusy)) none
+
+-- a call that is refused, or leaves the stream as t
+pub IsEnd-unless : {C : Type 0} {g : Ghosts C} (refusal : Option Errno) (s t : Stream) (r : Result (Unit {0}) Errno) (q : Reply) (sub : Substream C g)
+    → OnOk r ((refusal ≡ None) × StandsFor sub t) → IfErr r (λ e. (refusal ≡ Some e) × StandsFor sub s) → MatchResult r (λ _. q ≡ reply.Ok) (λ e. q ≡ reply.Err e)
+    → IsEnd (unless refusal s (says reply.Ok t)) q sub
+IsEnd-unless refusal s t (Ok u) q sub ok refused k = IsEnd-allowed refusal s (says reply.Ok t) q sub ok.0 (record { answers = k; stands = ok.1 })
+IsEnd-unless refusal s t (Err e) q sub ok refused k = IsEnd-refused refusal s (says reply.Ok t) e q sub refused.0 k refused.1

@@ -73,3 +73,15 @@ returns-in-Hwsync-clause-done c client s h w n = at_call c.args.call call.Hwsync
 
 pub returns-in-Delay-clause-done : goal.returns-in-Delay-clause-done
 returns-in-Delay-clause-done c client s h w n = at_call c.args.call call.Delay client c.args.bytes.now s c.delay.result c.delay.new.stream c.in-Delay.is (c.delay.ensures.done client s h)
+
+pub returns-in-CloseSub-clause-done : goal.returns-in-CloseSub-clause-done
+returns-in-CloseSub-clause-done c client s h w n = at_call c.args.call call.CloseSub client c.args.bytes.now s c.close.result c.close.new.stream c.in-CloseSub.is (c.close.ensures.done client s h w)
+
+pub returns-in-HwFree-clause-done : goal.returns-in-HwFree-clause-done
+returns-in-HwFree-clause-done c client s h w n = at_call c.args.call call.HwFree client c.args.bytes.now s c.hw_free.result c.hw_free.new.stream c.in-HwFree.is (c.hw_free.ensures.done client s h w)
+
+pub returns-in-SwParams-clause-done : goal.returns-in-SwParams-clause-done
+returns-in-SwParams-clause-done c client s h w n = at_call c.args.call (call.SwParams c.in-SwParams.sw) client c.args.bytes.now s c.sw_params.result c.sw_params.new.stream c.in-SwParams.is (c.sw_params.ensures.done client s h)
+
+pub returns-in-FailAt-clause-done : goal.returns-in-FailAt-clause-done
+returns-in-FailAt-clause-done c client s h w n = at_call c.args.call (call.FailAt c.in-FailAt.k) client c.args.bytes.now s c.fail_at.result c.fail_at.new.stream c.in-FailAt.is (c.fail_at.ensures.done client s h)

@@ -19,12 +19,8 @@ use Rattle.pcm_stream.specs.declared.substream.Substream.{Substream}
 use Rattle.pcm_stream.specs.SetUp.{configured_by, hw_refusal}
 use Rattle.pcm_stream.specs.StandsFor.{StandsFor}
 use Rattle.pcm_top.specs.Alone.{IsEnd}
-use Rattle.pcm_top.proofs.AloneLemmas.{IsEnd-allowed, IsEnd-else, IsEnd-refused}
+use Rattle.pcm_top.proofs.AloneLemmas.{IsEnd-allowed, IsEnd-else, IsEnd-refused, same_held}
 use Rattle.pcm_top.proofs.world.events.hw_params.Goals as goal
-
--- where nobody waits, no call is in progress
-same_refusal : (s : Stream) → s.sleepers ≡ [] → (table kind.HwParams s then if_held s) ≡ hw_refusal false s
-same_refusal s none = ap (λ (ps : List Waiting). table kind.HwParams s then (when (nat_lt 0 s.mappings) errno.Ebadfd then when (nat_lt 0 (length ps)) errno.Ebusy)) none
 
 -- What hw_params promises of its result r, where it leaves sub.
 record Refuses {C : Type 0} {g : Ghosts C} (config : Config) (s : Stream) (r : Result (Unit {0}) HwRefusal) (sub : Substream C g) : Type 0 where
@@ -37,10 +33,10 @@ refused_by : {C : Type 0} {g : Ghosts C} (c : ClientId) (config : Config) (s : S
     → IsEnd (event (call.HwParams config) c false [] s) (reply.Err e) sub
 refused_by c config s r e sub none is h (Some d) b o a =
     let same : e ≡ d = (let h0 : r ≡ Err (refusal.Errno d) = (h.refused d o).0 in cc) in
-    IsEnd-refused (table kind.HwParams s then if_held s) s _ d (reply.Err e) sub (same_refusal s none ∙ o) (ap reply.Err same) (h.refused d o).1
+    IsEnd-refused (table kind.HwParams s then if_held s) s _ d (reply.Err e) sub (same_held kind.HwParams s none ∙ o) (ap reply.Err same) (h.refused d o).1
 refused_by c config s r e sub none is h None false o a =
     let same : e ≡ errno.Einval = (let h0 : r ≡ Err (refusal.Errno errno.Einval) = (h.einval o a).0 in cc) in
-    IsEnd-allowed (table kind.HwParams s then if_held s) s _ (reply.Err e) sub (same_refusal s none ∙ o)
+    IsEnd-allowed (table kind.HwParams s then if_held s) s _ (reply.Err e) sub (same_held kind.HwParams s none ∙ o)
     (IsEnd-else (accepts s.model s.long_max config) (says reply.Ok (configured_by config s)) (fails errno.Einval (freed s)) (reply.Err e) sub a
     (record { answers = ap reply.Err same; stands = (h.einval o a).1 }))
 refused_by c config s r e sub none is h None true o a =
