@@ -2,7 +2,6 @@ use Rattle.std.proofs.Common.{◌≡◌, ◌∙◌, refl, sym, ap, subst, true, 
 use Rattle.pcm_base.specs.declared.act.Act.TheVariants as act
 use Rattle.pcm_base.specs.declared.call.CallKind.TheVariants as kind
 use Rattle.pcm_base.specs.declared.call.Mode.TheVariants as mode
-use Rattle.pcm_base.specs.declared.reply.Reply.TheVariants as reply
 use Rattle.pcm_base.specs.model.Acts.{table}
 use Rattle.pcm_base.specs.model.Events.{drain_now}
 use Rattle.pcm_base.specs.model.Program.{making}

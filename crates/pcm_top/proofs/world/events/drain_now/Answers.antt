@@ -3,7 +3,6 @@ use Rattle.pcm_base.specs.declared.act.Act.TheVariants as act
 use Rattle.pcm_base.specs.declared.reply.Reply.TheVariants as reply
 use Rattle.pcm_base.specs.declared.state.Errno.TheVariants as errno
 use Rattle.pcm_base.specs.model.Program.{fails}
-use Rattle.pcm_top.specs.Alone.{after_alone}
 use Rattle.pcm_top.proofs.AloneLemmas.{IsEnd-done, IsEnd-not_done}
 use Rattle.pcm_top.proofs.world.events.drain_now.Goals as goal
 

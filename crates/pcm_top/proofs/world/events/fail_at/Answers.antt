@@ -5,7 +5,7 @@ use Rattle.pcm_base.specs.declared.reply.Reply.{Reply}
 use Rattle.pcm_base.specs.declared.reply.Reply.TheVariants as reply
 use Rattle.pcm_base.specs.declared.state.Errno.{Errno}
 use Rattle.pcm_base.specs.declared.state.Errno.TheVariants as errno
-use Rattle.pcm_base.specs.model.Events.{event, plan_set}
+use Rattle.pcm_base.specs.model.Events.{plan_set}
 use Rattle.pcm_base.specs.model.Program.{fails, says}
 use Rattle.pcm_base.specs.model.Stream.{Stream}
 use Rattle.pcm_stream.specs.StandsFor.{StandsFor}
@@ -22,7 +22,7 @@ in_plan : (k : ℕ) → 1 ≤ k → k ≤ 64 → (nat_le 1 k && nat_le k 64) ≡
 in_plan k low high = ap (λ (b : Bool). b && nat_le k 64) (le-leb 1 k low) ∙ le-leb k 64 high
 
 outside : (k : ℕ) → ((1 ≤ k) × (k ≤ 64) → false ≡ true) → (b : Bool) → (nat_le 1 k && nat_le k 64) ≡ b → (nat_le 1 k && nat_le k 64) ≡ false
-outside k never true is = absurd (false≢true (never (leb-true 1 k (and_parts _ _ is).0 , leb-true k 64 (and_parts _ _ is).1)))
+outside k never true is = absurd (false≢true (never (leb-true 1 k (and_parts _ _ is).0, leb-true k 64 (and_parts _ _ is).1)))
 outside k _ false is = is
 
 planned_by : {C : Type 0} {g : Ghosts C} (k : ℕ) (s : Stream) (r : Result (Unit {0}) Errno) (q : Reply) (sub : Substream C g) → (IsOk r ↔ ((1 ≤ k) × (k ≤ 64)))

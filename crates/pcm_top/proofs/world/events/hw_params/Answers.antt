@@ -1,4 +1,4 @@
-use Rattle.std.proofs.Common.{◌≡◌, Bool, true, false, nat_lt, List, [], length, Option, None, Some, Result, Err, IfErr, refl, ap, subst, ◌∙◌}
+use Rattle.std.proofs.Common.{◌≡◌, Bool, true, false, [], Option, None, Some, Result, Err, IfErr, refl, ap, subst, ◌∙◌}
 use Rattle.pcm_base.specs.declared.card.Card.{Ghosts}
 use Rattle.pcm_base.specs.declared.call.Call.TheVariants as call
 use Rattle.pcm_base.specs.declared.call.CallKind.TheVariants as kind
@@ -11,8 +11,8 @@ use Rattle.pcm_base.specs.model.Acts.{table}
 use Rattle.pcm_base.specs.model.Allowed.{accepts}
 use Rattle.pcm_base.specs.model.Events.{event, freed, if_held}
 use Rattle.pcm_base.specs.model.Program.{fails, says}
-use Rattle.pcm_base.specs.model.Stream.{Stream, Waiting}
-use Rattle.pcm_base.specs.model.Words.{when, ◌then◌}
+use Rattle.pcm_base.specs.model.Stream.{Stream}
+use Rattle.pcm_base.specs.model.Words.{◌then◌}
 use Rattle.pcm_stream.specs.declared.substream.HwRefusal.{HwRefusal}
 use Rattle.pcm_stream.specs.declared.substream.HwRefusal.TheVariants as refusal
 use Rattle.pcm_stream.specs.declared.substream.Substream.{Substream}

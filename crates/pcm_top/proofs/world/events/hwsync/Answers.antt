@@ -1,8 +1,5 @@
-use Rattle.std.proofs.Common.{◌≡◌, refl}
 use Rattle.pcm_base.specs.declared.call.CallKind.TheVariants as kind
-use Rattle.pcm_base.specs.declared.reply.Reply.TheVariants as reply
 use Rattle.pcm_base.specs.model.Acts.{table}
-use Rattle.pcm_base.specs.model.Program.{says}
 use Rattle.pcm_top.proofs.AloneLemmas.{IsEnd-allowed, IsEnd-answered, permitted}
 use Rattle.pcm_top.proofs.world.events.hwsync.Goals as goal
 
