@@ -111,12 +111,13 @@ impl World {
         }
     }
 
-    /// Sets LONG_MAX of the session: EBUSY where the substream is declared, then EINVAL unless it is 15 to 2^36 - 1. This
-    /// project's own.
+    /// Sets LONG_MAX of the session: EBUSY where the substream is declared, then EINVAL unless it is 15 to 2^36 - 1. What
+    /// `moved` tells stays. This project's own.
     pub fn set_long(&mut self, n: u64) -> Reply
         ensures answered { result ≢ Memory }
         ensures reply { (w : ModelWorld) → IsWorld self.old w → result ≡ (set_long_of n w).reply }
         ensures world { (w : ModelWorld) → IsWorld self.old w → IsWorld self.new (set_long_of n w).world }
+        ensures moved { moved_in self.new ≡ moved_in self.old }
     {
         if self.lone.is_some() {
             return Reply::Err(Errno::Ebusy);
@@ -128,13 +129,15 @@ impl World {
         Reply::Ok
     }
 
-    /// Declares s0 with a card of this model, for playback; EBUSY where it is declared. This project's own.
+    /// Declares s0 with a card of this model, for playback; EBUSY where it is declared. What `moved` tells stays. This
+    /// project's own.
     pub fn declare(&mut self, sub: SubId, model: Model, dir: Dir) -> Reply
         requires first { is_s0 sub ≡ true }
         requires playback { dir ≡ Playback }
         ensures answered { result ≢ Memory }
         ensures reply { (w : ModelWorld) → IsWorld self.old w → result ≡ (declare_of sub (limits_of model) dir w).reply }
         ensures world { (w : ModelWorld) → IsWorld self.old w → IsWorld self.new (declare_of sub (limits_of model) dir w).world }
+        ensures moved { moved_in self.new ≡ moved_in self.old }
     {
         if self.lone.is_some() {
             return Reply::Err(Errno::Ebusy);
