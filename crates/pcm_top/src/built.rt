@@ -21,8 +21,8 @@ fn is_built_call(call: Call) -> bool
     }
 }
 
-/// Whether the line is one of `run` that is built: those of the one playback substream s0, with non-blocking interleaved
-/// writes, and LONG_MAX. This project's own.
+/// Whether the line is one of `run` that is built: those of the one playback substream s0, with interleaved writes and
+/// calls that do not block, and LONG_MAX. This project's own.
 pub fn is_built(line: &Line) -> bool
     ensures { result ≡ is_built_of line.now }
 {

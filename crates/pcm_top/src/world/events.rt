@@ -1,5 +1,5 @@
 // What each event does to a substream that stands alone in its group (the ioctls of `pcm_native.c`).
-ghost use Rattle.std.specs.Prelude.{◌≡◌, ◌≢◌, true, false, [], MatchResult};
+ghost use Rattle.std.specs.Prelude.{◌≡◌, ◌≢◌, ◌<◌, ◌^◌, ◌-ℤ◌, pos, true, false, [], MatchResult};
 ghost use Rattle.pcm_base.specs.declared.act.Act.{Act as AnAct};
 ghost use Rattle.pcm_base.specs.declared.act.Act.TheVariants as act;
 ghost use Rattle.pcm_base.specs.declared.call.Call.TheVariants as call;
@@ -186,17 +186,28 @@ fn hwsync(stream: &mut Substream<AnyCard>) -> Reply
     }
 }
 
-// The frames between the application and the hardware.
-fn delay_of(stream: &Substream<AnyCard>) -> i64
-    ensures { (s : Stream) → StandsFor stream.now s → is_set_up s.state ≡ true → Reply.Delay result ≡ delay_in s }
+// What is queued in a buffer of which so many frames are free, less than none where more are.
+fn queued(buffer: u64, free: u64) -> i64
+    requires buffer { buffer < 2 ^ 36 }
+    requires free { free < 2 ^ 36 }
+    ensures { result ≡ pos buffer -ℤ pos free }
+{
+    buffer as i64 - free as i64
+}
+
+// The frames between the application and the hardware, none where there is no configuration.
+fn delay_now(stream: &Substream<AnyCard>) -> Reply
+    ensures delay { (s : Stream) → StandsFor stream.now s → is_set_up s.state ≡ true → result ≡ delay_in s }
+    ensures told { result ≢ Memory }
+    ensures awake { result ≢ Asleep }
 {
     let Some(shape) = stream.shape() else {
-        return 0;
+        return Reply::Delay(0);
     };
-    let avail = stream.page().avail as i64;
+    let avail = stream.page().avail;
     match stream.dir() {
-        Dir::Playback => shape.buffer as i64 - avail,
-        Dir::Capture => avail,
+        Dir::Playback => Reply::Delay(queued(shape.buffer, avail)),
+        Dir::Capture => Reply::Delay(avail as i64),
     }
 }
 
@@ -209,7 +220,7 @@ fn delay(stream: &mut Substream<AnyCard>) -> Reply
         return Reply::Err(e);
     }
     match report(stream) {
-        Ok(()) => Reply::Delay(delay_of(stream)),
+        Ok(()) => delay_now(stream),
         Err(e) => Reply::Err(e),
     }
 }

@@ -1,5 +1,5 @@
 // A non-blocking interleaved write to a substream that stands alone in its group.
-ghost use Rattle.std.specs.Prelude.{◌≡◌, ◌≢◌, ◌≤◌, ◌+◌, ◌*◌, ◌/◌, ◌<◌, ◌%◌, ◌&&◌, ℕ, true, false, None, Some, [], IfOk, IsOk, IsSome, MatchResult, length, take, drop, min};
+ghost use Rattle.std.specs.Prelude.{◌≡◌, ◌≢◌, ◌≤◌, ◌+◌, ◌*◌, ◌/◌, ◌<◌, ◌%◌, ◌&&◌, ℕ, true, false, None, Some, [], IfOk, IsOk, IsSome, MatchResult, length, take, drop, min, nat_le};
 ghost use Rattle.std.specs.Option.{ForSome};
 ghost use Rattle.pcm_base.specs.declared.call.Layout.TheVariants.{Interleaved};
 ghost use Rattle.pcm_base.specs.declared.call.Mode.TheVariants.{NonBlock};
@@ -9,7 +9,7 @@ ghost use Rattle.pcm_base.specs.declared.reply.Reply.TheVariants.{Asleep, Memory
 ghost use Rattle.pcm_base.specs.declared.sleeper.Xfer.{Xfer};
 ghost use Rattle.pcm_base.specs.Shape.{AreFrames, count_of};
 ghost use Rattle.pcm_base.specs.model.Stream.{Stream};
-ghost use Rattle.pcm_base.specs.model.Transfer.{fits, frames_in, frames_or, is_filled, is_whole, misfit, write as write_of, write_on};
+ghost use Rattle.pcm_base.specs.model.Transfer.{fits, frames_in, frames_or, is_filled as is_filled_in, is_whole, misfit, write as write_of, write_on};
 ghost use Rattle.pcm_base.specs.model.Words.{is_prepared};
 ghost use Rattle.pcm_laws.specs.Turns.{turn as turn_of};
 ghost use Rattle.pcm_stream.specs.StandsFor.{StandsFor, shape_in};
@@ -17,7 +17,9 @@ ghost use Rattle.pcm_top.specs.Alone.{IsEnd, ended};
 
 use crate::world::alone::{act_alone, refresh};
 use card_emul::AnyCard;
-use pcm_base::{Access, Act, CallKind, Config, Dir, Errno, Layout, Reply, State, Updated};
+use pcm_base::{
+    Access, Act, CallKind, Config, Dir, Errno, Layout, Reply, Shape, State, SwParams, Updated,
+};
 use pcm_stream::Substream;
 use state_table::permit;
 
@@ -101,17 +103,19 @@ fn turn(stream: &Substream<AnyCard>, rest: u64) -> u64
         .min(shape.buffer - page.appl % shape.buffer)
 }
 
+// With so many frames free, the start threshold is queued.
+fn is_filled(shape: &Shape, sw: &SwParams, free: u64) -> bool
+    ensures { result ≡ nat_le (sw.now.start_threshold + free) shape.now.buffer }
+{
+    free <= shape.buffer && sw.start_threshold <= shape.buffer - free
+}
+
 // A client that has queued enough starts the substream.
 fn starts(stream: &Substream<AnyCard>) -> bool
-    ensures { (s : Stream) (config : Configuration) → StandsFor stream.now s → s.setup.config ≡ Some config → result ≡ (is_prepared s.state && is_filled s 0) }
+    ensures { (s : Stream) (config : Configuration) → StandsFor stream.now s → s.setup.config ≡ Some config → result ≡ (is_prepared s.state && is_filled_in s 0) }
 {
-    match (stream.sw(), stream.shape()) {
-        (Some(sw), Some(shape)) => {
-            let free = stream.page().avail;
-            stream.state() == State::Prepared
-                && free <= shape.buffer
-                && sw.start_threshold <= shape.buffer - free
-        }
+    match (stream.state(), stream.sw(), stream.shape()) {
+        (State::Prepared, Some(sw), Some(shape)) => is_filled(shape, sw, stream.page().avail),
         _ => false,
     }
 }
