@@ -1,11 +1,11 @@
 -- What an act leaves of what a substream stands for.
-use Rattle.std.proofs.Common.{ℕ, ◌≡◌, ◌%◌, ◌<◌, ◌≤◌, Bool, true, false, cond, not, ◌&&◌, nat_lt, nat_le, List, refl, sym, ap, ◌∙◌, subst, arith}
+use Rattle.std.proofs.Common.{ℕ, suc, ◌≡◌, ◌%◌, ◌<◌, ◌≤◌, Bool, true, false, cond, not, ◌&&◌, nat_lt, nat_le, List, [], ◌∷◌, length, drop, length-append, length-drop, Result, Ok, Err, OnOk, OnErr, refl, sym, ap, ◌∙◌, subst, arith}
 use Rattle.std.specs.declared.option.Option.{Option}
 use Rattle.std.specs.declared.option.Option.TheVariants.{Some, None}
 use Rattle.std.specs.Option.{ForSome, IfSome, IsSome}
 use Rattle.std.proofs.lemmas.Bool.Decides.{nat_tests}
 use Rattle.std.specs.Bool.{beq}
-use Rattle.pcm_base.specs.CardFacts.{consults, first_set, moved_on, plan_after, rewound_card, runs_after, triggered, tripped, undone}
+use Rattle.pcm_base.specs.CardFacts.{CardFacts, consults, first_set, moved_on, plan_after, rewound_card, runs_after, triggered, tripped, undone}
 use Rattle.pcm_base.specs.declared.act.Act.{Act}
 use Rattle.pcm_base.specs.declared.act.Act.TheVariants as act
 use Rattle.pcm_base.specs.declared.act.Outcome.TheVariants as outcome
@@ -14,6 +14,7 @@ use Rattle.pcm_base.specs.declared.act.Trigger.TheVariants as trigger
 use Rattle.pcm_base.specs.declared.act.Vote.TheVariants as vote
 use Rattle.pcm_base.specs.declared.call.CallKind.TheVariants as kind
 use Rattle.pcm_base.specs.declared.card.Card.{Ghosts}
+use Rattle.pcm_base.specs.declared.card.CardFailed.{CardFailed}
 use Rattle.pcm_base.specs.declared.config.Config.{Config}
 use Rattle.pcm_base.specs.declared.config.Shape.{Shape}
 use Rattle.pcm_base.specs.declared.config.SwParams.{SwParams}
@@ -235,6 +236,25 @@ drain-consults : (b e : Bool) → b ≡ consulted_by (drain_trigger b e)
 drain-consults true e = refl
 drain-consults false true = refl
 drain-consults false false = refl
+
+-- a trigger leaves the card's shape and what it took, and a plan as long as before
+pub kept_by_trigger : (f g : CardFacts) (t : Trigger) (r : Result (Unit {0}) CardFailed) → OnOk r (g ≡ triggered f t) → OnErr r (g ≡ tripped f t)
+    → (g.shape ≡ f.shape) × (g.taken ≡ f.taken) × (g.plan ≡ plan_after t f.plan)
+kept_by_trigger f g t (Ok u) e k = (ap (λ (x : CardFacts). x.shape) e, ap (λ (x : CardFacts). x.taken) e, ap (λ (x : CardFacts). x.plan) e)
+kept_by_trigger f g t (Err x) k e = (ap (λ (x : CardFacts). x.shape) e, ap (λ (x : CardFacts). x.taken) e, ap (λ (x : CardFacts). x.plan) e)
+
+moved_on-length : (n : ℕ) (plan : List Bool) → length plan ≡ suc n → length (moved_on plan) ≡ suc n
+moved_on-length n plan h = omega (arith, h, length-append (drop 1 plan) (false ∷ []), length-drop 1 plan)
+
+planned-if : (b : Bool) (plan : List Bool) → length plan ≡ 64 → length (cond b (moved_on plan) plan) ≡ 64
+planned-if true plan h = moved_on-length 63 plan h
+planned-if false plan h = h
+
+pub planned-after : (t : Trigger) (o : Option (List Bool)) → ForSome o (λ plan. length plan ≡ 64) → ForSome (plan_after t o) (λ plan. length plan ≡ 64)
+planned-after t None h plan is = absurd (cc)
+planned-after t (Some old) h plan is =
+    let same : cond (consults t) (moved_on old) old ≡ plan = cc in
+    ap (λ (p : List Bool). length p) (sym same) ∙ planned-if (consults t) old (h old refl)
 
 -- an act consults the plan where its trigger does
 pub asks-consults : (a : Act) (s : Stream) → asks s a ≡ consulted_by (trigger_for a s)

@@ -1,8 +1,8 @@
-use Rattle.std.proofs.Common.{◌≡◌, refl, sym, ◌∙◌}
+use Rattle.std.proofs.Common.{◌≡◌, ℕ, List, length, refl, sym, ◌∙◌, ap, arith}
 use Rattle.std.specs.declared.option.Option.TheVariants.{Some, None}
 use Rattle.std.proofs.lemmas.Result.{on_err_weaker, on_ok_weaker}
 use Rattle.pcm_stream.specs.Triggers.{trigger_for}
-use Rattle.pcm_stream.proofs.ActsLemmas.{did, did_not, did_nothing, told-trips, unasked-trips}
+use Rattle.pcm_stream.proofs.ActsLemmas.{did, did_not, did_nothing, kept_by_trigger, planned-after, told-trips, unasked-trips}
 use Rattle.pcm_stream.proofs.substream.Substream.do_act.Goals as goal
 
 pub returns-in-Some-clause-done : goal.returns-in-Some-clause-done
@@ -31,3 +31,13 @@ returns-in-None-clause-done g c s h =
 
 pub returns-in-None-clause-trips : goal.returns-in-None-clause-trips
 returns-in-None-clause-trips g c s h some = unasked-trips c.args.act s (sym (c.trigger_for.ensures s h.shows h.sound) ∙ c.in-None.is)
+
+pub invariant_of-self : goal.invariant_of-self
+invariant_of-self g c =
+    let held = kept_by_trigger _ _ c.in-Some.trigger c.trigger.result c.trigger.ensures.ok c.trigger.ensures.err in
+    record {
+      set_up = λ x is. held.0 ∙ c.args.self.now.set_up x is;
+      long = c.args.self.now.long;
+      held = omega (arith, ap (λ (bytes : List ℕ). length bytes) held.1, c.args.self.now.held);
+      planned = λ plan is. planned-after c.in-Some.trigger _ c.args.self.now.planned plan (sym held.2 ∙ is);
+    }

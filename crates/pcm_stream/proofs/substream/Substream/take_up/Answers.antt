@@ -1,4 +1,4 @@
-use Rattle.std.proofs.Common.{◌≡◌, ◌%◌, refl, sym, ◌∙◌, ap, subst}
+use Rattle.std.proofs.Common.{◌≡◌, ◌%◌, ℕ, Some, List, [], length, refl, sym, ◌∙◌, ap, subst, arith}
 use Rattle.pcm_base.specs.declared.config.Shape.{Shape}
 use Rattle.pcm_base.specs.CardFacts.{CardFacts}
 use Rattle.pcm_base.specs.Boundary.{boundary_of}
@@ -33,4 +33,15 @@ returns-clause-model g c s config h accepted shape unmapped new =
       runs = ap (λ (f : CardFacts). f.runs) facts;
       plan = λ p is. h.plan p (sym (ap (λ (f : CardFacts). f.plan) facts) ∙ is);
       sound = configured-sound config s accepted;
+    }
+
+pub invariant_of-self : goal.invariant_of-self
+invariant_of-self g c =
+    let facts = c.set_up.ensures.after in
+    let taken : (g.C.Card.facts c.set_up.new.self).taken ≡ [] = ap (λ (f : CardFacts). f.taken) facts in
+    record {
+      set_up = for_some (λ (x : Runtime). (g.C.Card.facts c.set_up.new.self).shape ≡ Some x.shape) c.args.runtime (ap (λ (f : CardFacts). f.shape) facts ∙ ap Some (sym c.requires.shape));
+      long = c.args.self.now.long;
+      held = omega (arith, ap (λ (bytes : List ℕ). length bytes) taken);
+      planned = λ plan is. c.args.self.now.planned plan (sym (ap (λ (f : CardFacts). f.plan) facts) ∙ is);
     }
