@@ -53,7 +53,8 @@ fn run_source<S: Source, F: Shelf>(
 /// substream. `refine` answers each space line of the script: with the space line of the least box that holds every
 /// configuration which its card's model leaves, or with `err EINVAL 22` where none is left. Any other words are `Usage`, and
 /// then nothing is read, written or stored. `ReadFault`, `WriteFault` and `ShelfFault` come only where the count of faults of
-/// the source, the sink or the shelf rose. This project's own.
+/// the source, the sink or the shelf rose. Nothing is written before a `ReadFault` or `Memory`, nor stored before a
+/// `ReadFault`. This project's own.
 pub fn pcm_main<S: Source, K: Sink, F: Shelf>(
     alloc: Global,
     words: &[String],
@@ -69,6 +70,8 @@ pub fn pcm_main<S: Source, K: Sink, F: Shelf>(
         (λ script. IsOutput command script (F.files shelf.old) (F.files shelf.new) (K.written out.old) (K.written out.new) result)) }
     ensures front { IfSome (asked (map string_bytes words.now)) (λ command. IfSome (S.left source.old)
         (λ script. IsFront command script (F.files shelf.old) (F.files shelf.new) (K.written out.old) (K.written out.new))) }
+    ensures unread { result ≡ Status.ReadFault → (out.new ≡ out.old) × (F.files shelf.new ≡ F.files shelf.old) }
+    ensures unfound { result ≡ Status.Memory → out.new ≡ out.old }
     ensures statuses { is_given result ≡ true }
     ensures ended { result ≡ Status.Ok → IsAtEnd (S.left source.new) }
 
