@@ -475,3 +475,59 @@ delay_and_poll =
     card 0 call.Irq [] ▸ says reply.Ok state.Running ∷
     by 0 0 call.Poll [] ▸ says (reply.Poll ready.Yes) state.Running ∷
     []
+
+-- A card is unplugged: its writer is woken, and the substream answers EBADFD until it is closed and opened again.
+abbrev pub an_unplugged_card : List Shown
+an_unplugged_card =
+    Declares 0 basic dir.Playback ▸ says reply.Ok state.Closed ∷
+    by 0 0 call.OpenSub [] ▸ says reply.Ok state.Opened ∷
+    by 0 0 (call.HwParams (config access.RwInterleaved format.U8 1)) [] ▸ says reply.Ok state.Setup ∷
+    by 0 0 call.Prepare [] ▸ says reply.Ok state.Prepared ∷
+    by 0 0 (call.Write layout.Interleaved mode.Block) (1 ∷ 2 ∷ 3 ∷ 4 ∷ 5 ∷ 6 ∷ []) ▸ says reply.Asleep state.Running ∷
+    card 0 call.Unplug [] ▸ waking reply.Ok state.Disconnected [] (client 0 ∷ []) ∷
+    by 0 0 call.Go [] ▸ says (reply.Frames 4) state.Disconnected ∷
+    by 0 0 call.Prepare [] ▸ says (reply.Err errno.Ebadfd) state.Disconnected ∷
+    by 0 0 call.Poll [] ▸ says (reply.Poll ready.Error) state.Disconnected ∷
+    card 0 call.Unplug [] ▸ says (reply.Err errno.Ebadfd) state.Disconnected ∷
+    by 0 0 call.CloseSub [] ▸ says reply.Ok state.Closed ∷
+    by 0 0 call.OpenSub [] ▸ says reply.Ok state.Opened ∷
+    []
+
+-- an unplugged member stops its group, and holds it up until it is unlinked
+abbrev pub an_unplugged_member : List Shown
+an_unplugged_member =
+    Declares 0 basic dir.Playback ▸ says reply.Ok state.Closed ∷
+    Declares 1 basic dir.Playback ▸ says reply.Ok state.Closed ∷
+    by 0 0 call.OpenSub [] ▸ says reply.Ok state.Opened ∷
+    by 1 1 call.OpenSub [] ▸ says reply.Ok state.Opened ∷
+    by 0 0 (call.HwParams (config access.RwInterleaved format.U8 1)) [] ▸ says reply.Ok state.Setup ∷
+    by 1 1 (call.HwParams (config access.RwInterleaved format.U8 1)) [] ▸ says reply.Ok state.Setup ∷
+    by 0 0 (call.Link (sub 1)) [] ▸ says reply.Ok state.Setup ∷
+    by 0 0 call.Prepare [] ▸ says reply.Ok state.Prepared ∷
+    by 0 0 (call.SwParams (sw 2 5 4 0 0)) [] ▸ says reply.Ok state.Prepared ∷
+    by 1 1 (call.SwParams (sw 2 5 4 0 0)) [] ▸ says reply.Ok state.Prepared ∷
+    by 0 0 (call.Write layout.Interleaved mode.NonBlock) (1 ∷ 2 ∷ []) ▸ says (reply.Frames 2) state.Prepared ∷
+    by 1 1 (call.Write layout.Interleaved mode.NonBlock) (1 ∷ 2 ∷ []) ▸ says (reply.Frames 2) state.Prepared ∷
+    by 0 0 call.Start [] ▸ says reply.Ok state.Running ∷
+    card 1 call.Unplug [] ▸ says reply.Ok state.Disconnected ∷
+    by 0 0 call.Status [] ▸ says (reply.Ptrs (record { state = state.Setup; hw = 0; appl = 2; avail = 2 })) state.Setup ∷
+    by 0 0 call.Prepare [] ▸ says (reply.Err errno.Ebadfd) state.Setup ∷
+    by 0 1 call.Unlink [] ▸ says reply.Ok state.Disconnected ∷
+    by 0 0 call.Prepare [] ▸ says reply.Ok state.Prepared ∷
+    []
+
+-- unplugged in OPEN, a substream has no configuration: it answers transfers, status and poll so
+abbrev pub unplugged_when_open : List Shown
+unplugged_when_open =
+    Declares 0 basic dir.Playback ▸ says reply.Ok state.Closed ∷
+    card 0 call.Unplug [] ▸ says (reply.Err errno.Enxio) state.Closed ∷
+    by 0 0 call.OpenSub [] ▸ says reply.Ok state.Opened ∷
+    card 0 call.Unplug [] ▸ says reply.Ok state.Disconnected ∷
+    by 0 0 call.OpenSub [] ▸ says (reply.Err errno.Ebusy) state.Disconnected ∷
+    by 0 0 (call.Write layout.Interleaved mode.NonBlock) (1 ∷ []) ▸ says (reply.Err errno.Ebadfd) state.Disconnected ∷
+    by 0 0 (call.Read layout.Interleaved mode.NonBlock 1) [] ▸ says (reply.Err errno.Einval) state.Disconnected ∷
+    by 0 0 (call.HwParams (config access.RwInterleaved format.U8 1)) [] ▸ says (reply.Err errno.Ebadfd) state.Disconnected ∷
+    by 0 0 call.Status [] ▸ says (reply.Ptrs (record { state = state.Disconnected; hw = 0; appl = 0; avail = 0 })) state.Disconnected ∷
+    card 0 (call.MoveBy 1) [] ▸ says reply.Idle state.Disconnected ∷
+    by 0 0 call.CloseSub [] ▸ says reply.Ok state.Closed ∷
+    []

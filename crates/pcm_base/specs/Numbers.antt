@@ -18,6 +18,7 @@ state_number state.Xrun = 4
 state_number state.Draining = 5
 state_number state.Paused = 6
 state_number state.Suspended = 7
+state_number state.Disconnected = 8
 state_number state.Closed = 15
 
 abbrev pub errno_number : Errno → ℕ

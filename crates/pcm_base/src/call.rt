@@ -16,7 +16,7 @@ pub enum Layout {
     Planar,
 }
 
-/// The 24 calls that the error table speaks of.
+/// The 25 calls that the error table speaks of.
 #[derive(Clone, Copy, Debug, PartialEq, Eq)]
 pub enum CallKind {
     HwParams,
@@ -43,10 +43,11 @@ pub enum CallKind {
     Map,
     Link,
     Unlink,
+    Unplug,
 }
 
-/// One call on a substream, or one event of its card. Counts and offsets are in frames. `MoveBy`, `Irq`, `FailAt` and
-/// `Give` are the card's. The bytes of `Write`, `Store` and `Give` stand beside the call.
+/// One call on a substream, or one event of its card. Counts and offsets are in frames. `MoveBy`, `Irq`, `FailAt`, `Give`
+/// and `Unplug` are the card's. The bytes of `Write`, `Store` and `Give` stand beside the call.
 #[derive(Clone, Copy, Debug, PartialEq, Eq)]
 pub enum Call {
     OpenSub,
@@ -84,6 +85,7 @@ pub enum Call {
     Irq,
     FailAt(u64),
     Give,
+    Unplug,
 }
 
 /// An event of the core: who calls, on which substream, what. `client` is None for an event of the card.

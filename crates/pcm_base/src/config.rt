@@ -4,7 +4,7 @@ ghost use Rattle.pcm_base.specs.Boundary.{boundary_of as the_boundary};
 
 use crate::{Access, Format};
 
-/// The named card models. This project's own.
+/// The named card models; `Indirect` plays through a small hardware buffer of its own. This project's own.
 #[derive(Clone, Copy, Debug, PartialEq, Eq)]
 pub enum Model {
     Basic,
@@ -12,6 +12,7 @@ pub enum Model {
     Studio,
     NoPause,
     NoResume,
+    Indirect,
 }
 
 /// What a client asks of `hw_params`: `rate` in Hz, `period` in frames, `periods` in a buffer

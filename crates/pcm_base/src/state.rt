@@ -21,6 +21,7 @@ pub enum State {
     Draining,
     Paused,
     Suspended,
+    Disconnected,
 }
 
 impl State {
@@ -37,6 +38,7 @@ impl State {
             State::Draining => 5,
             State::Paused => 6,
             State::Suspended => 7,
+            State::Disconnected => 8,
             State::Closed => 15,
         }
     }

@@ -53,3 +53,14 @@ pub struct Acted {
     pub outcome: Outcome,
     pub votes: Votes,
 }
+
+// A list of acts fills its unused places with a blank one.
+impl Default for Acted {
+    fn default() -> Acted {
+        Acted {
+            act: Act::Watch,
+            outcome: Outcome::Done,
+            votes: Votes::new(),
+        }
+    }
+}

@@ -28,17 +28,17 @@ use Rattle.pcm_base.specs.declared.state.State.{State}
 use Rattle.pcm_base.specs.declared.state.State.TheVariants as state
 use Rattle.pcm_base.specs.model.Acts.{table}
 use Rattle.pcm_base.specs.model.Allowed.{accepts, buffer_of}
-use Rattle.pcm_base.specs.model.Events.{closed, delay, drain, drain_now, event, forwarded, freed, go, go_drain, go_on, go_task, go_transfer, hands, if_held, is_busy, is_mapped_access, left_by, length_of, opens, page, plan_set, program, rewound, set_mappings, set_setup, set_sw, setup_of, waiting_of, watch}
+use Rattle.pcm_base.specs.model.Events.{closed, delay, drain, drain_now, event, forwarded, freed, go, go_drain, go_on, go_task, go_transfer, hands, if_held, is_busy, is_mapped_access, left_by, length_of, opens, page, plan_set, program, rewound, set_mappings, set_setup, set_sw, setup_of, unplug_alone, waiting_of, watch}
 use Rattle.pcm_base.specs.model.Frame.{Frame}
 use Rattle.pcm_base.specs.model.PointerCalls.{on_by, sync_to}
 use Rattle.pcm_base.specs.model.Program.{Ends, Makes, Program, act_alone, after_found, fails, going_on, making, or_epipe, says, unless, updated_or_epipe, updating}
 use Rattle.pcm_base.specs.model.Replay.{AtMost}
 use Rattle.pcm_base.specs.model.Software.{refuses_sw}
 use Rattle.pcm_base.specs.model.Standing.{put_at, standing_at}
-use Rattle.pcm_base.specs.model.Stream.{Stream, avail, zero_frame}
+use Rattle.pcm_base.specs.model.Stream.{Stream, avail, is_bare, zero_frame}
 use Rattle.pcm_base.specs.model.Transfer.{after_moves, after_start, frames_by, frames_in, frames_or, is_whole, misfit, put_next, read, read_next, read_on, sleeping, start_reading, starting_halt, stuck, tells, waiting_for, write, write_from, write_on, write_plain}
 use Rattle.pcm_base.specs.model.Update.{update}
-use Rattle.pcm_base.specs.model.Words.{is_closed, is_draining, is_open, is_paused, is_playback, is_prepared, is_running, is_suspended, when, ◌then◌}
+use Rattle.pcm_base.specs.model.Words.{is_closed, is_disconnected, is_draining, is_paused, is_playback, is_prepared, is_running, is_suspended, when, ◌then◌}
 
 AtMost-more : (n : ℕ) (p : Program) → AtMost n p → AtMost (suc n) p
 AtMost-more n (Ends b s) h = tt
@@ -185,6 +185,7 @@ AtMost-go_transfer c x wanted io s = by s.state s.dir
     by state.Running d = may
     by state.Paused d = may
     by state.Suspended d = tt
+    by state.Disconnected d = tt
     by state.Xrun d = tt
     by state.Draining dir.Playback = tt
     by state.Draining dir.Capture = AtMost-go_on c x io (left_by c s)
@@ -199,7 +200,7 @@ AtMost-go_drain c (outcome.Failed j) t = tt
 
 AtMost-go_task : (c : ClientId) (k : Task) (io : List ℕ) (s : Stream) → AtMost 2 (go_task c k io s)
 AtMost-go_task c (task.Transfer x wanted) io s = AtMost-go_transfer c x wanted io s
-AtMost-go_task c task.Drain io s = λ o t. AtMost-more 0 (go_drain c o t) (AtMost-go_drain c o t)
+AtMost-go_task c task.Drain io s = AtMost-if 2 (is_disconnected s.state) (fails errno.Ebadfd (left_by c s)) (Makes act.Watch s (go_drain c)) tt (λ o t. AtMost-more 0 (go_drain c o t) (AtMost-go_drain c o t))
 
 AtMost-go : (c : ClientId) (io : List ℕ) (s : Stream) → AtMost 2 (go c io s)
 AtMost-go c io s = by (waiting_of c s.sleepers)
@@ -249,7 +250,8 @@ AtMost-event call.Go c l io s = AtMost-more 2 (go c io s) (AtMost-go c io s)
 AtMost-event (call.MoveBy n) c l io s = tt
 AtMost-event call.Irq c l io s = AtMost-updating 2 s (λ u. says reply.Ok) (λ u t. tt)
 AtMost-event (call.FailAt i) c l io s = AtMost-if 3 (nat_le 1 i && nat_le i 64) (says reply.Ok (plan_set i s)) (fails errno.Einval s) tt tt
-AtMost-event call.Give c l io s = AtMost-unless 3 (when (is_open s.state || is_playback s.dir || not (is_whole s io)) errno.Einval) s (hands reply.Ok (frames_in s io) (record s { card = record s.card { to_give = frames_in s io } })) tt
+AtMost-event call.Give c l io s = AtMost-unless 3 (when (is_bare s || is_playback s.dir || not (is_whole s io)) errno.Einval) s (hands reply.Ok (frames_in s io) (record s { card = record s.card { to_give = frames_in s io } })) tt
+AtMost-event call.Unplug c l io s = AtMost-unless 3 (table kind.Unplug s) s (if s.card.runs then making (act.Stop state.Setup) s unplug_alone else unplug_alone s) (AtMost-if 3 s.card.runs (making (act.Stop state.Setup) s unplug_alone) (unplug_alone s) (AtMost-making 2 (act.Stop state.Setup) s unplug_alone (λ t. tt)) tt)
 
 pub AtMost-program : (e : Call) (c : ClientId) (linked : Bool) (io : List ℕ) (s : Stream) → AtMost 3 (program e c linked io s)
 AtMost-program e c l io s = AtMost-if 3 (is_closed s.state && not (opens e)) (fails errno.Enxio s) (event e c l io s) tt (AtMost-event e c l io s)

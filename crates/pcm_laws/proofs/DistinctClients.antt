@@ -18,7 +18,7 @@ use Rattle.pcm_base.specs.declared.state.State.{State}
 use Rattle.pcm_base.specs.declared.votes.Acted.{Acted}
 use Rattle.pcm_base.specs.model.Acts.{acted, after_all, members_after, subs, table}
 use Rattle.pcm_base.specs.model.Allowed.{accepts, buffer_of}
-use Rattle.pcm_base.specs.model.Events.{closed, delay, drain, drain_now, event, forwarded, freed, go, go_drain, go_on, go_task, go_transfer, hands, if_held, is_busy, is_mapped_access, left_by, length_of, opens, others_than, page, plan_set, program, rewound, set_mappings, set_setup, set_sw, setup_of, waiting_of, watch}
+use Rattle.pcm_base.specs.model.Events.{closed, delay, drain, drain_now, event, forwarded, freed, go, go_drain, go_on, go_task, go_transfer, hands, if_held, is_busy, is_mapped_access, left_by, length_of, opens, others_than, page, plan_set, program, rewound, set_mappings, set_setup, set_sw, setup_of, unplug_alone, waiting_of, watch}
 use Rattle.pcm_base.specs.model.Frame.{Frame}
 use Rattle.pcm_base.specs.model.Group.{Run, group_step, mark, put_stream, run, run_event, stream_of}
 use Rattle.pcm_base.specs.model.Movement.{Movement, carried, carried_frames, given_by, move, taken_by, taken_bytes}
@@ -28,10 +28,10 @@ use Rattle.pcm_base.specs.model.Replay.{Part, is_member, joined, part_of}
 use Rattle.pcm_base.specs.model.Sleep.{group_drains, wake_members}
 use Rattle.pcm_base.specs.model.Software.{refuses_sw}
 use Rattle.pcm_base.specs.model.Standing.{put_at, standing_at}
-use Rattle.pcm_base.specs.model.Stream.{Member, Stream, Waiting, avail, zero_frame}
+use Rattle.pcm_base.specs.model.Stream.{Member, Stream, Waiting, avail, is_bare, zero_frame}
 use Rattle.pcm_base.specs.model.Transfer.{after_moves, after_start, frames_by, frames_in, frames_or, is_whole, misfit, put_next, read, read_next, read_on, sleeping, start_reading, starting_halt, stuck, tells, waiting_for, write, write_from, write_on, write_plain}
 use Rattle.pcm_base.specs.model.Update.{Refreshed, found, moved_up, settled, update}
-use Rattle.pcm_base.specs.model.Words.{is_closed, is_draining, is_open, is_paused, is_playback, is_prepared, is_running, is_suspended, when, ◌then◌}
+use Rattle.pcm_base.specs.model.Words.{is_closed, is_disconnected, is_draining, is_paused, is_playback, is_prepared, is_running, is_suspended, when, ◌then◌}
 use Rattle.pcm_base.specs.model.World.{is_go}
 use Rattle.pcm_laws.proofs.CallsInProgress.{IsFree, distinct-append, free-others_than}
 use Rattle.pcm_laws.proofs.Decomposition.{stream_of-members_after, stream_of-put_stream_same, subs-members_after, subs-put_stream}
@@ -234,6 +234,7 @@ KeepsDistinct-go_transfer c x wanted io s d = by s.state s.dir
     by state.Running w = may
     by state.Paused w = may
     by state.Suspended w = gone.distinct
+    by state.Disconnected w = gone.distinct
     by state.Xrun w = gone.distinct
     by state.Draining dir.Playback = gone.distinct
     by state.Draining dir.Capture = KeepsDistinct-go_on c x io (left_by c s) gone
@@ -250,7 +251,9 @@ KeepsDistinct-go_drain c (outcome.Failed j) t d = d
 
 KeepsDistinct-go_task : (c : ClientId) (q : Task) (io : List ℕ) (s : Stream) → AreDistinct s → KeepsDistinct (go_task c q io s)
 KeepsDistinct-go_task c (task.Transfer x wanted) io s d = KeepsDistinct-go_transfer c x wanted io s d
-KeepsDistinct-go_task c task.Drain io s d = (d, λ o t e. KeepsDistinct-go_drain c o t (distinct_as s t e d))
+KeepsDistinct-go_task c task.Drain io s d =
+    let f : IsFree c (others_than c s.sleepers) = free-others_than c s.sleepers d in
+    KeepsDistinct-if (is_disconnected s.state) (fails errno.Ebadfd (left_by c s)) (Makes act.Watch s (go_drain c)) f.distinct (d, λ o t e. KeepsDistinct-go_drain c o t (distinct_as s t e d))
 
 KeepsDistinct-go : (c : ClientId) (io : List ℕ) (s : Stream) → AreDistinct s → KeepsDistinct (go c io s)
 KeepsDistinct-go c io s d = by (waiting_of c s.sleepers)
@@ -334,7 +337,10 @@ KeepsDistinct-event call.Go c l io s f d = KeepsDistinct-go c io s d
 KeepsDistinct-event (call.MoveBy n) c l io s f d = distinct_as s (move n s).stream (sleepers-move n s) d
 KeepsDistinct-event call.Irq c l io s f d = KeepsDistinct-updating s (λ u. says reply.Ok) d (λ u t e. distinct_as s t e d)
 KeepsDistinct-event (call.FailAt i) c l io s f d = KeepsDistinct-if (nat_le 1 i && nat_le i 64) (says reply.Ok (plan_set i s)) (fails errno.Einval s) d d
-KeepsDistinct-event call.Give c l io s f d = KeepsDistinct-unless (when (is_open s.state || is_playback s.dir || not (is_whole s io)) errno.Einval) s (hands reply.Ok (frames_in s io) (record s { card = record s.card { to_give = frames_in s io } })) d d
+KeepsDistinct-event call.Give c l io s f d = KeepsDistinct-unless (when (is_bare s || is_playback s.dir || not (is_whole s io)) errno.Einval) s (hands reply.Ok (frames_in s io) (record s { card = record s.card { to_give = frames_in s io } })) d d
+KeepsDistinct-event call.Unplug c l io s f d =
+    KeepsDistinct-unless (table kind.Unplug s) s (if s.card.runs then making (act.Stop state.Setup) s unplug_alone else unplug_alone s) d
+    (KeepsDistinct-if s.card.runs (making (act.Stop state.Setup) s unplug_alone) (unplug_alone s) (KeepsDistinct-making (act.Stop state.Setup) s unplug_alone d (λ t e. distinct_as s t e d)) d)
 
 KeepsDistinct-program : (e : Call) (c : ClientId) (linked : Bool) (io : List ℕ) (s : Stream) → (is_go e ≡ false → waiting_of c s.sleepers ≡ None) → AreDistinct s → KeepsDistinct (program e c linked io s)
 KeepsDistinct-program e c l io s f d = KeepsDistinct-if (is_closed s.state && not (opens e)) (fails errno.Enxio s) (event e c l io s) d (KeepsDistinct-event e c l io s f d)

@@ -14,7 +14,7 @@ use Rattle.pcm_base.specs.declared.state.State.{State}
 use Rattle.pcm_base.specs.declared.state.State.TheVariants as state
 use Rattle.pcm_base.specs.model.Acts.{done, drained, pre, stopped, table}
 use Rattle.pcm_base.specs.model.Permit.{permit}
-use Rattle.pcm_base.specs.model.Sound.{IsConfigured, IsPlaced, is_set_up, is_stop, keeps, may_keep}
+use Rattle.pcm_base.specs.model.Sound.{IsConfigured, IsPlaced, may_be_set_up, is_stop, keeps, may_keep}
 use Rattle.pcm_base.specs.model.Stream.{Stream, all_at, avail, head_of}
 use Rattle.pcm_base.specs.model.Update.{fill, set_runs, set_state}
 use Rattle.pcm_base.specs.model.Words.{runs_in, when, ◌then◌}
@@ -32,6 +32,7 @@ starts_from dir.Playback state.Draining h = absurd (cc)
 starts_from dir.Capture state.Draining h = absurd (cc)
 starts_from d state.Paused h = absurd (cc)
 starts_from d state.Suspended h = absurd (cc)
+starts_from d state.Disconnected h = absurd (cc)
 
 pub pauses_from : (d : Dir) (t : State) → permit kind.PausePush t d ≡ None → t ≡ state.Running
 pauses_from d state.Closed h = absurd (cc)
@@ -44,6 +45,7 @@ pauses_from dir.Playback state.Draining h = absurd (cc)
 pauses_from dir.Capture state.Draining h = absurd (cc)
 pauses_from d state.Paused h = absurd (cc)
 pauses_from d state.Suspended h = absurd (cc)
+pauses_from d state.Disconnected h = absurd (cc)
 
 pub releases_from : (d : Dir) (t : State) → permit kind.PauseRelease t d ≡ None → t ≡ state.Paused
 releases_from d state.Closed h = absurd (cc)
@@ -56,6 +58,7 @@ releases_from dir.Playback state.Draining h = absurd (cc)
 releases_from dir.Capture state.Draining h = absurd (cc)
 releases_from d state.Paused h = refl
 releases_from d state.Suspended h = absurd (cc)
+releases_from d state.Disconnected h = absurd (cc)
 
 pub resumes_from : (d : Dir) (t : State) → permit kind.Resume t d ≡ None → t ≡ state.Suspended
 resumes_from d state.Closed h = absurd (cc)
@@ -68,6 +71,7 @@ resumes_from dir.Playback state.Draining h = absurd (cc)
 resumes_from dir.Capture state.Draining h = absurd (cc)
 resumes_from d state.Paused h = absurd (cc)
 resumes_from d state.Suspended h = refl
+resumes_from d state.Disconnected h = absurd (cc)
 
 pub may_suspend : (d : Dir) (t : State) → permit kind.Suspend t d ≡ None → may_keep t ≡ true
 may_suspend d state.Closed h = absurd (cc)
@@ -79,6 +83,7 @@ may_suspend d state.Xrun h = refl
 may_suspend d state.Draining h = refl
 may_suspend d state.Paused h = refl
 may_suspend d state.Suspended h = absurd (cc)
+may_suspend d state.Disconnected h = absurd (cc)
 
 pub first_none : (x y : Option Errno) → (x then y) ≡ None → x ≡ None
 first_none (Some e) y h = absurd (cc)
@@ -89,7 +94,7 @@ then_none (Some e) y h = absurd (cc)
 then_none None y h = h
 
 -- another state, motion and kept state
-pub IsConfigured-motion : (c : Config) (s : Stream) (t : State) (b : Bool) (k : Option State) → is_set_up t ≡ true → b ≡ runs_in s.dir t → keeps t k ≡ true → IsConfigured c s → IsConfigured c (record s { state = t; kept = k; card = record s.card { runs = b } })
+pub IsConfigured-motion : (c : Config) (s : Stream) (t : State) (b : Bool) (k : Option State) → may_be_set_up t ≡ true → b ≡ runs_in s.dir t → keeps t k ≡ true → IsConfigured c s → IsConfigured c (record s { state = t; kept = k; card = record s.card { runs = b } })
 IsConfigured-motion c s t b k e f g h =
     let u : Stream = record s { state = t; kept = k; card = record s.card { runs = b } } in
     let p : IsPlaced s = h.placed in
@@ -131,13 +136,13 @@ IsConfigured-start c s n h =
     let k : keeps state.Running s.kept ≡ true = subst (λ t. keeps t s.kept ≡ true) e h.kept in
     IsConfigured-fill c (set_runs true (set_state state.Running s)) (IsConfigured-motion c s state.Running true s.kept refl (runs_running s.dir) k h)
 
-IsConfigured-stopped : (c : Config) (s : Stream) (u : State) → is_set_up u ≡ true → false ≡ runs_in s.dir u → keeps u None ≡ true → IsConfigured c s → IsConfigured c (stopped u s)
+IsConfigured-stopped : (c : Config) (s : Stream) (u : State) → may_be_set_up u ≡ true → false ≡ runs_in s.dir u → keeps u None ≡ true → IsConfigured c s → IsConfigured c (stopped u s)
 IsConfigured-stopped c s u e f g h = by s.state h.state
   where
     now : IsConfigured c (record s { state = u; kept = None; card = record s.card { runs = false } })
     now = IsConfigured-motion c s u false None e f g h
 
-    by : (t : State) → is_set_up t ≡ true → IsConfigured c (elim t as (λ _. Stream) [ state.Opened ↦ s | state.Closed ↦ s | _ ↦ set_runs false (record s { state = u; kept = None }) ])
+    by : (t : State) → may_be_set_up t ≡ true → IsConfigured c (elim t as (λ _. Stream) [ state.Opened ↦ s | state.Closed ↦ s | state.Disconnected ↦ s | _ ↦ set_runs false (record s { state = u; kept = None }) ])
     by state.Closed q = h
     by state.Opened q = h
     by state.Setup q = now
@@ -147,6 +152,7 @@ IsConfigured-stopped c s u e f g h = by s.state h.state
     by state.Draining q = now
     by state.Paused q = now
     by state.Suspended q = now
+    by state.Disconnected q = h
 
 IsConfigured-prepare : (c : Config) (s : Stream) → IsConfigured c s → IsConfigured c (set_runs false (record s { state = state.Prepared; kept = None; at = all_at s.setup.boundary }))
 IsConfigured-prepare c s h =
@@ -190,6 +196,7 @@ IsConfigured-resumed c s (Some t) e h = by t e
     by state.Draining q = IsConfigured-motion c s state.Draining (runs_in s.dir state.Draining) None refl refl refl h
     by state.Paused q = IsConfigured-motion c s state.Paused (runs_in s.dir state.Paused) None refl refl refl h
     by state.Suspended q = absurd (cc)
+    by state.Disconnected q = absurd (cc)
 
 IsConfigured-suspend : (c : Config) (s : Stream) → pre s act.Suspend ≡ None → IsConfigured c s → IsConfigured c (done act.Suspend s)
 IsConfigured-suspend c s n h = IsConfigured-motion c s state.Suspended false (Some s.state) refl (stands_suspended s.dir) (may_suspend s.dir s.state n) h
@@ -236,6 +243,7 @@ IsConfigured-drained c s h = by s.dir s.state refl refl
     by dir.Playback state.Draining e f = h
     by dir.Playback state.Paused e f = h
     by dir.Playback state.Suspended e f = h
+    by dir.Playback state.Disconnected e f = h
     by dir.Capture state.Running e f = some_left (nat_lt 0 (avail s)) e f
     by dir.Capture state.Closed e f = h
     by dir.Capture state.Opened e f = h
@@ -245,6 +253,7 @@ IsConfigured-drained c s h = by s.dir s.state refl refl
     by dir.Capture state.Draining e f = h
     by dir.Capture state.Paused e f = h
     by dir.Capture state.Suspended e f = h
+    by dir.Capture state.Disconnected e f = h
 
 pub IsConfigured-done : (c : Config) (a : Act) (s : Stream) → is_stop a ≡ true → pre s a ≡ None → IsConfigured c s → IsConfigured c (done a s)
 IsConfigured-done c act.Start s i n h = IsConfigured-start c s n h
@@ -260,6 +269,7 @@ IsConfigured-done c (act.Stop u) s i n h = by u i
     by state.Draining q = absurd (cc)
     by state.Paused q = absurd (cc)
     by state.Suspended q = absurd (cc)
+    by state.Disconnected q = absurd (cc)
 IsConfigured-done c (act.Prepare first) s i n h = IsConfigured-prepare c s h
 IsConfigured-done c act.Pause s i n h =
     let e : s.state ≡ state.Running = pauses_from s.dir s.state (then_none (when (not s.model.can_pause) errno.Enosys) (table kind.PausePush s) n) in

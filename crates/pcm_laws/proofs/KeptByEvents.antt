@@ -6,6 +6,9 @@ use Rattle.std.specs.declared.option.Option.TheVariants.{Some, None}
 use Rattle.pcm_base.specs.Boundary.{boundary_of}
 use Rattle.pcm_base.specs.declared.act.Act.{Act}
 use Rattle.pcm_base.specs.declared.act.Act.TheVariants as act
+use Rattle.pcm_base.specs.declared.act.Outcome.{Outcome}
+use Rattle.pcm_base.specs.declared.act.Outcome.TheVariants as outcome
+use Rattle.pcm_base.specs.declared.act.Vote.{Vote}
 use Rattle.pcm_base.specs.declared.call.Call.{Call}
 use Rattle.pcm_base.specs.declared.call.Call.TheVariants as call
 use Rattle.pcm_base.specs.declared.call.CallKind.TheVariants as kind
@@ -20,24 +23,27 @@ use Rattle.pcm_base.specs.declared.state.Errno.{Errno}
 use Rattle.pcm_base.specs.declared.state.Errno.TheVariants as errno
 use Rattle.pcm_base.specs.declared.state.State.{State}
 use Rattle.pcm_base.specs.declared.state.State.TheVariants as state
-use Rattle.pcm_base.specs.model.Acts.{table}
+use Rattle.pcm_base.specs.model.Acts.{after, stopped, table}
 use Rattle.pcm_base.specs.model.Allowed.{accepts, buffer_of}
-use Rattle.pcm_base.specs.model.Events.{closed, delay, event, forwarded, freed, hands, if_held, is_busy, is_mapped_access, opens, page, plan_set, program, rewound, set_mappings, set_setup, set_sw, setup_of}
+use Rattle.pcm_base.specs.model.Events.{closed, delay, event, forwarded, freed, hands, if_held, is_busy, is_mapped_access, opens, page, plan_set, program, rewound, set_mappings, set_setup, set_sw, setup_of, unplug_alone, unplugged}
 use Rattle.pcm_base.specs.model.Frame.{Frame}
 use Rattle.pcm_base.specs.model.Movement.{Movement, carried, carried_frames, given_by, move, taken_by, taken_bytes}
 use Rattle.pcm_base.specs.model.Permit.{permit}
 use Rattle.pcm_base.specs.model.PointerCalls.{hw_avail, sync_to}
-use Rattle.pcm_base.specs.model.Program.{act_alone, fails, says, unless, updated_or_epipe}
+use Rattle.pcm_base.specs.model.Program.{act_alone, fails, going_on, making, says, unless, updated_or_epipe}
+use Rattle.pcm_base.specs.model.Replay.{Fits}
 use Rattle.pcm_base.specs.model.Software.{refuses_sw}
-use Rattle.pcm_base.specs.model.Sound.{IsBare, IsConfigured, IsPlaced, KeepsSound, Sound, SoundAt, is_set_up, is_stop}
+use Rattle.pcm_base.specs.model.Sound.{IsBare, IsConfigured, IsPlaced, KeepsSound, Sound, SoundAt, is_set_up, is_stop, may_be_set_up}
 use Rattle.pcm_base.specs.model.Standing.{put_at, standing_at}
-use Rattle.pcm_base.specs.model.Stream.{Stream, avail, head_of, zero_frame}
+use Rattle.pcm_base.specs.model.Stream.{Setup, Stream, avail, head_of, is_bare, zero_frame}
 use Rattle.pcm_base.specs.model.Transfer.{frames_in, is_whole}
-use Rattle.pcm_base.specs.model.Words.{is_closed, is_open, is_paused, is_playback, is_running, is_suspended, runs_in, when, ◌then◌}
+use Rattle.pcm_base.specs.model.Update.{set_runs}
+use Rattle.pcm_base.specs.model.Words.{is_closed, is_paused, is_playback, is_running, is_suspended, runs_in, when, ◌then◌}
 use Rattle.pcm_laws.proofs.Sizes.{accepts-buffer, accepts-long, boundary_of-room}
 use Rattle.pcm_laws.proofs.Tests.{not_le}
 use Rattle.pcm_laws.proofs.KeptByMoves.{Sound-as, IsConfigured-carried}
-use Rattle.pcm_laws.proofs.KeptByActs.{first_none, then_none}
+use Rattle.pcm_laws.proofs.KeptByActs.{IsConfigured-motion, first_none, then_none}
+use Rattle.pcm_laws.proofs.KeptByVotes.{Sound-after}
 use Rattle.pcm_laws.proofs.KeptByPrograms.{IsConfigured-changed, Sound-back_by, Sound-on_by, Sound-plan, Sound-puts, Sound-sync_to, KeepsSound-drain, KeepsSound-go, KeepsSound-if, KeepsSound-act_alone, KeepsSound-read, KeepsSound-unless, KeepsSound-updated_or_epipe, KeepsSound-updating, KeepsSound-write}
 
 sets_up_sw : (d : Dir) (t : State) → permit kind.SwParams t d ≡ None → is_set_up t ≡ true
@@ -50,6 +56,7 @@ sets_up_sw d state.Xrun h = refl
 sets_up_sw d state.Draining h = refl
 sets_up_sw d state.Paused h = refl
 sets_up_sw d state.Suspended h = refl
+sets_up_sw d state.Disconnected h = absurd (cc)
 
 sets_up_map : (d : Dir) (t : State) → permit kind.Map t d ≡ None → is_set_up t ≡ true
 sets_up_map d state.Closed h = absurd (cc)
@@ -61,28 +68,19 @@ sets_up_map d state.Xrun h = refl
 sets_up_map d state.Draining h = refl
 sets_up_map d state.Paused h = refl
 sets_up_map d state.Suspended h = refl
+sets_up_map d state.Disconnected h = absurd (cc)
 
-not_open : (t : State) → is_open t ≡ false → is_closed t ≡ false → is_set_up t ≡ true
-not_open state.Closed g h = absurd (cc)
-not_open state.Opened g h = absurd (cc)
-not_open state.Setup g h = refl
-not_open state.Prepared g h = refl
-not_open state.Running g h = refl
-not_open state.Xrun g h = refl
-not_open state.Draining g h = refl
-not_open state.Paused g h = refl
-not_open state.Suspended g h = refl
-
-is_bare : (t : State) → is_closed t ≡ true → is_set_up t ≡ false
-is_bare state.Closed h = refl
-is_bare state.Opened h = refl
-is_bare state.Setup h = absurd (cc)
-is_bare state.Prepared h = absurd (cc)
-is_bare state.Running h = absurd (cc)
-is_bare state.Xrun h = absurd (cc)
-is_bare state.Draining h = absurd (cc)
-is_bare state.Paused h = absurd (cc)
-is_bare state.Suspended h = absurd (cc)
+closed_unset : (t : State) → is_closed t ≡ true → may_be_set_up t ≡ false
+closed_unset state.Closed h = refl
+closed_unset state.Opened h = absurd (cc)
+closed_unset state.Setup h = absurd (cc)
+closed_unset state.Prepared h = absurd (cc)
+closed_unset state.Running h = absurd (cc)
+closed_unset state.Xrun h = absurd (cc)
+closed_unset state.Draining h = absurd (cc)
+closed_unset state.Paused h = absurd (cc)
+closed_unset state.Suspended h = absurd (cc)
+closed_unset state.Disconnected h = absurd (cc)
 
 -- nothing is mapped, where a held stream is refused
 held : (m : ℕ) (a b : Bool) (e : Errno) → when (a || nat_lt 0 m || b) e ≡ None → m ≡ 0
@@ -95,10 +93,10 @@ unmapped zero e y h = refl
 unmapped (suc m) e y h = absurd (let k : nat_lt 0 (suc m) ≡ true = grind (arith, nat_tests) in let g : when true e ≡ None = ap (λ b. when b e) (sym k) ∙ first_none (when (nat_lt 0 (suc m)) e) y h in cc)
 
 Sound-freed : (s : Stream) → s.mappings ≡ 0 → Sound (freed s)
-Sound-freed s h = record { state = refl; setup = refl; stands = refl; unmapped = h; taken = refl; to_give = refl; kept = refl }
+Sound-freed s h = record { state = refl; setup = refl; at = refl; moved = refl; stands = refl; unmapped = h; taken = refl; to_give = refl; kept = refl }
 
 Sound-closed : (s : Stream) → s.mappings ≡ 0 → Sound (closed s)
-Sound-closed s h = record { state = refl; setup = refl; stands = refl; unmapped = h; taken = refl; to_give = refl; kept = refl }
+Sound-closed s h = record { state = refl; setup = refl; at = refl; moved = refl; stands = refl; unmapped = h; taken = refl; to_give = refl; kept = refl }
 
 plain_sw : (p b l : ℕ) → 0 < p → 0 < l → (nat_eq p 0 || ((nat_le l 0 && not (nat_eq 0 0)) || (nat_lt 0 l && (nat_lt 0 0 || nat_lt b 0)))) ≡ false
 plain_sw p b l g h =
@@ -164,14 +162,68 @@ Sound-set_sw w s e f h = by s.setup.config h
 
 Sound-set_mappings : (n : ℕ) (s : Stream) → (IsBare s → n ≡ 0) → Sound s → Sound (set_mappings n s)
 Sound-set_mappings n s f h = Sound-as s (set_mappings n s) refl (λ c q. IsConfigured-changed c s s.puts s.sleepers n s.card.plan s.card.to_give q)
-    (λ q. record { state = q.state; setup = q.setup; stands = q.stands; unmapped = f q; taken = q.taken; to_give = q.to_give; kept = q.kept }) h
+    (λ q. record { state = q.state; setup = q.setup; at = q.at; moved = q.moved; stands = q.stands; unmapped = f q; taken = q.taken; to_give = q.to_give; kept = q.kept }) h
 
-Sound-to_give : (gs : List Frame) (s : Stream) → is_set_up s.state ≡ true → Sound s → Sound (record s { card = record s.card { to_give = gs } })
-Sound-to_give gs s e h = Sound-as s (record s { card = record s.card { to_give = gs } }) refl (λ c q. IsConfigured-changed c s s.puts s.sleepers s.mappings s.card.plan gs q) (λ q. absurd (clash s e q)) h
+clash_bare : (s : Stream) → is_bare s ≡ false → IsBare s → ⊥
+clash_bare s e h = let none : is_bare s ≡ true = ap (λ (q : Setup). elim q.config as (λ _. Bool) [ None ↦ true | Some c ↦ false ]) h.setup in cc
+
+Sound-to_give : (gs : List Frame) (s : Stream) → is_bare s ≡ false → Sound s → Sound (record s { card = record s.card { to_give = gs } })
+Sound-to_give gs s e h = Sound-as s (record s { card = record s.card { to_give = gs } }) refl (λ c q. IsConfigured-changed c s s.puts s.sleepers s.mappings s.card.plan gs q) (λ q. absurd (clash_bare s e q)) h
 
 Sound-opened : (s : Stream) → is_closed s.state ≡ true → Sound s → Sound (record s { state = state.Opened })
-Sound-opened s e h = Sound-as s (record s { state = state.Opened }) refl (λ c q. absurd (let g : is_set_up s.state ≡ true = q.state in let f : is_set_up s.state ≡ false = is_bare s.state e in cc))
-    (λ q. record { state = refl; setup = q.setup; stands = q.stands; unmapped = q.unmapped; taken = q.taken; to_give = q.to_give; kept = q.kept }) h
+Sound-opened s e h = Sound-as s (record s { state = state.Opened }) refl (λ c q. absurd (let g : may_be_set_up s.state ≡ true = q.state in let f : may_be_set_up s.state ≡ false = closed_unset s.state e in cc))
+    (λ q. record { state = refl; setup = q.setup; at = q.at; moved = q.moved; stands = q.stands; unmapped = q.unmapped; taken = q.taken; to_give = q.to_give; kept = q.kept }) h
+
+-- a card that is gone
+
+unset_stands : (d : Dir) (t : State) → is_set_up t ≡ false → runs_in d t ≡ false
+unset_stands dir.Playback state.Closed h = refl
+unset_stands dir.Capture state.Closed h = refl
+unset_stands dir.Playback state.Opened h = refl
+unset_stands dir.Capture state.Opened h = refl
+unset_stands dir.Playback state.Disconnected h = refl
+unset_stands dir.Capture state.Disconnected h = refl
+unset_stands d state.Setup h = absurd (cc)
+unset_stands d state.Prepared h = absurd (cc)
+unset_stands d state.Running h = absurd (cc)
+unset_stands d state.Xrun h = absurd (cc)
+unset_stands d state.Draining h = absurd (cc)
+unset_stands d state.Paused h = absurd (cc)
+unset_stands d state.Suspended h = absurd (cc)
+
+Sound-runs : (s : Stream) → Sound s → s.card.runs ≡ runs_in s.dir s.state
+Sound-runs s h = by s.setup.config h
+  where
+    by : (o : Option Config) → SoundAt o s → s.card.runs ≡ runs_in s.dir s.state
+    by None q = q.stands ∙ sym (unset_stands s.dir s.state q.state)
+    by (Some c) q = q.running
+
+pub stands-stopped : (u : State) (s : Stream) → Sound s → (stopped u s).card.runs ≡ false
+stands-stopped u s h = by s.state (Sound-runs s h)
+  where
+    by : (t : State) → s.card.runs ≡ runs_in s.dir t → (elim t as (λ _. Stream) [ state.Opened ↦ s | state.Closed ↦ s | state.Disconnected ↦ s | _ ↦ set_runs false (record s { state = u; kept = None }) ]).card.runs ≡ false
+    by state.Closed e = e ∙ unset_stands s.dir state.Closed refl
+    by state.Opened e = e ∙ unset_stands s.dir state.Opened refl
+    by state.Disconnected e = e ∙ unset_stands s.dir state.Disconnected refl
+    by state.Setup e = refl
+    by state.Prepared e = refl
+    by state.Running e = refl
+    by state.Xrun e = refl
+    by state.Draining e = refl
+    by state.Paused e = refl
+    by state.Suspended e = refl
+
+pub Sound-unplugged : (s : Stream) → s.card.runs ≡ false → Sound s → Sound (unplugged s)
+Sound-unplugged s e h = Sound-as s (unplugged s) refl (λ c q. IsConfigured-motion c s state.Disconnected s.card.runs None refl (e ∙ sym (unset_stands s.dir state.Disconnected refl)) refl q)
+    (λ q. record { state = refl; setup = q.setup; at = q.at; moved = q.moved; stands = q.stands; unmapped = q.unmapped; taken = q.taken; to_give = q.to_give; kept = refl }) h
+
+KeepsSound-stopping : (k : SubId) (s : Stream) → Sound s → KeepsSound k (making (act.Stop state.Setup) s unplug_alone)
+KeepsSound-stopping k s h = (h, refl, by)
+  where
+    by : (v : Vote) (o : Outcome) → Fits k s (act.Stop state.Setup) v o → KeepsSound k (going_on unplug_alone o (after (act.Stop state.Setup) v o s))
+    by v outcome.Done q = Sound-unplugged (stopped state.Setup s) (stands-stopped state.Setup s h) (Sound-after k (act.Stop state.Setup) v outcome.Done s refl q h)
+    by v (outcome.Refused j e) q = Sound-after k (act.Stop state.Setup) v (outcome.Refused j e) s refl q h
+    by v (outcome.Failed j) q = Sound-after k (act.Stop state.Setup) v (outcome.Failed j) s refl q h
 
 -- the card's movement
 
@@ -257,7 +309,8 @@ KeepsSound-event k call.Go c l io s f h = KeepsSound-go k c io s h
 KeepsSound-event k (call.MoveBy n) c l io s f h = Sound-move n s h
 KeepsSound-event k call.Irq c l io s f h = KeepsSound-updating k s (λ u. says reply.Ok) h (λ u t g. g)
 KeepsSound-event k (call.FailAt i) c l io s f h = KeepsSound-if k (nat_le 1 i && nat_le i 64) (says reply.Ok (plan_set i s)) (fails errno.Einval s) (λ _. Sound-plan (set s.card.plan (i - 1) true) s h) (λ _. h)
-KeepsSound-event k call.Give c l io s f h = KeepsSound-unless k (when (is_open s.state || is_playback s.dir || not (is_whole s io)) errno.Einval) s (hands reply.Ok (frames_in s io) (record s { card = record s.card { to_give = frames_in s io } })) h (λ n. Sound-to_give (frames_in s io) s (not_open s.state (left_of_two (is_open s.state) (is_playback s.dir) (not (is_whole s io)) errno.Einval n) (f refl)) h)
+KeepsSound-event k call.Give c l io s f h = KeepsSound-unless k (when (is_bare s || is_playback s.dir || not (is_whole s io)) errno.Einval) s (hands reply.Ok (frames_in s io) (record s { card = record s.card { to_give = frames_in s io } })) h (λ n. Sound-to_give (frames_in s io) s (left_of_two (is_bare s) (is_playback s.dir) (not (is_whole s io)) errno.Einval n) h)
+KeepsSound-event k call.Unplug c l io s f h = KeepsSound-unless k (table kind.Unplug s) s (if s.card.runs then making (act.Stop state.Setup) s unplug_alone else unplug_alone s) h (λ _. KeepsSound-if k s.card.runs (making (act.Stop state.Setup) s unplug_alone) (unplug_alone s) (λ _. KeepsSound-stopping k s h) (λ e. Sound-unplugged s e h))
 
 pub KeepsSound-program : (k : SubId) (e : Call) (c : ClientId) (linked : Bool) (io : List ℕ) (s : Stream) → Sound s → KeepsSound k (program e c linked io s)
 KeepsSound-program k e c l io s h = KeepsSound-if k (is_closed s.state && not (opens e)) (fails errno.Enxio s) (event e c l io s) (λ _. h) (λ q. KeepsSound-event k e c l io s (λ o. let g : is_closed s.state ≡ false = not_here (is_closed s.state) (opens e) o q in g) h)

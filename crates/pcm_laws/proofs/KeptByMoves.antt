@@ -18,7 +18,7 @@ use Rattle.pcm_base.specs.model.Frame.{Frame}
 use Rattle.pcm_base.specs.model.Movement.{carried, given_by, taken_by}
 use Rattle.pcm_base.specs.model.PointerCalls.{back_by, hw_avail, on_by, sync_to}
 use Rattle.pcm_base.specs.model.Software.{refuses_sw}
-use Rattle.pcm_base.specs.model.Sound.{IsBare, IsConfigured, IsPlaced, IsShaped, Sound, SoundAt, is_set_up, keeps}
+use Rattle.pcm_base.specs.model.Sound.{IsBare, IsConfigured, IsPlaced, IsShaped, Sound, SoundAt, may_be_set_up, keeps}
 use Rattle.pcm_base.specs.model.Standing.{Put, put_at}
 use Rattle.pcm_base.specs.model.Stream.{Stream, avail, head, head_of}
 use Rattle.pcm_base.specs.model.Transfer.{put_next}
@@ -94,7 +94,7 @@ pub IsConfigured-at : (c : Config) (s t : Stream) → IsShaped c t → IsPlaced 
 IsConfigured-at c s t a p e f g r h = record {
   shaped = a;
   placed = p;
-  state = ap is_set_up e ∙ h.state;
+  state = ap may_be_set_up e ∙ h.state;
   running = r ∙ (h.running ∙ (ap (λ d. runs_in d s.state) (sym f) ∙ ap (λ q. runs_in t.dir q) (sym e)));
   kept = ap (λ q. keeps q t.kept) e ∙ (ap (λ k. keeps s.state k) g ∙ h.kept);
 }
@@ -149,6 +149,7 @@ drain_state state.Prepared b stop a h = absurd (cc)
 drain_state state.Xrun b stop a h = absurd (cc)
 drain_state state.Paused b stop a h = absurd (cc)
 drain_state state.Suspended b stop a h = absurd (cc)
+drain_state state.Disconnected b stop a h = absurd (cc)
 
 stands_in_setup : (d : Dir) → false ≡ runs_in d state.Setup
 stands_in_setup dir.Playback = refl

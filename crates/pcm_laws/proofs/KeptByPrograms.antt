@@ -1,5 +1,5 @@
 -- Transfers, drains and calls that go on keep each stream sound.
-use Rattle.std.proofs.Common.{ℕ, zero, suc, ◌≡◌, ◌+◌, ◌-◌, ◌/◌, ◌≤◌, ◌<◌, Bool, true, false, cond, not, ◌&&◌, nat_eq, nat_le, nat_lt, List, [], ◌∷◌, ◌++◌, length, take, drop, min, if◌then◌else◌, refl, arith, length-take}
+use Rattle.std.proofs.Common.{ℕ, zero, suc, ◌≡◌, ◌+◌, ◌-◌, ◌/◌, ◌%◌, ◌≤◌, ◌<◌, Bool, true, false, cond, not, ◌&&◌, nat_eq, nat_le, nat_lt, List, [], ◌∷◌, ◌++◌, length, take, drop, min, if◌then◌else◌, refl, ap, ◌∙◌, arith, length-take}
 use Rattle.std.specs.declared.option.Option.{Option}
 use Rattle.std.specs.declared.option.Option.TheVariants.{Some, None}
 use Rattle.pcm_base.specs.declared.act.Act.{Act}
@@ -30,12 +30,12 @@ use Rattle.pcm_base.specs.model.Events.{drain, drain_now, go, go_drain, go_on, g
 use Rattle.pcm_base.specs.model.Frame.{Frame}
 use Rattle.pcm_base.specs.model.PointerCalls.{back_by, hw_avail, on_by, sync_to}
 use Rattle.pcm_base.specs.model.Program.{Makes, Program, act_alone, after_found, fails, going_on, making, or_epipe, says, unless, updated_or_epipe, updating}
-use Rattle.pcm_base.specs.model.Sound.{IsConfigured, IsPlaced, KeepsSound, Sound, is_stop}
+use Rattle.pcm_base.specs.model.Sound.{IsBare, IsConfigured, IsPlaced, KeepsSound, Sound, is_stop}
 use Rattle.pcm_base.specs.model.Standing.{Put}
-use Rattle.pcm_base.specs.model.Stream.{Stream, Waiting, avail}
+use Rattle.pcm_base.specs.model.Stream.{Positions, Stream, Waiting, all_at, avail, head, head_of}
 use Rattle.pcm_base.specs.model.Transfer.{after_moves, after_start, frames_by, frames_or, is_filled, is_halt, is_whole, least, misfit, put_next, read, read_next, read_on, sleeping, start_reading, starting_halt, stuck, tells, waiting_for, write, write_from, write_on, write_plain}
 use Rattle.pcm_base.specs.model.Update.{update}
-use Rattle.pcm_base.specs.model.Words.{is_draining, is_paused, is_prepared, is_suspended, ◌then◌}
+use Rattle.pcm_base.specs.model.Words.{is_disconnected, is_draining, is_paused, is_prepared, is_suspended, ◌then◌}
 use Rattle.pcm_laws.proofs.KeptByMoves.{Sound-as, IsShaped-as, IsConfigured-at, Sound-update, IsConfigured-back_by, IsConfigured-on_by, IsConfigured-put_next, IsConfigured-sync_to}
 use Rattle.pcm_laws.proofs.KeptByVotes.{Sound-after}
 
@@ -76,19 +76,40 @@ KeepsSound-or_epipe k f g updated.StopXrun t h = h
 pub KeepsSound-updated_or_epipe : (k : SubId) (s : Stream) (f : Stream → Program) → Sound s → ((t : Stream) → Sound t → KeepsSound k (f t)) → KeepsSound k (updated_or_epipe s f)
 KeepsSound-updated_or_epipe k s f h g = KeepsSound-updating k s (or_epipe f) h (KeepsSound-or_epipe k f g)
 
+-- a stream without a configuration stands at 0, and a client can move nothing there
+
+abbrev appl_at : ℕ → Positions → Positions
+appl_at x p = record p { appl = x }
+
+bare_appl : (x : ℕ) (s : Stream) → IsBare s → x ≡ 0 → appl_at x s.at ≡ all_at 0
+bare_appl x s q e = ap (appl_at x) q.at ∙ ap (λ n. appl_at n (all_at 0)) e
+
+bare_none : (s : Stream) → IsBare s → s.at.appl ≡ 0
+bare_none s q = ap (λ p. p.appl) q.at
+
+head_zero : (d : Dir) (b h : ℕ) → b ≡ 0 → h ≡ 0 → head_of d b h ≡ 0
+head_zero dir.Playback b h e f = omega (arith, e, f)
+head_zero dir.Capture b h e f = f
+
+bare_head : (s : Stream) → IsBare s → head s ≡ 0
+bare_head s q = head_zero s.dir s.setup.buffer s.at.hw (ap (λ c. c.buffer) q.setup) (ap (λ p. p.hw) q.at)
+
+bare_avail : (s : Stream) → IsBare s → avail s ≡ 0
+bare_avail s q = let e : head s ≡ 0 = bare_head s q in omega (arith, e)
+
 -- changes that touch nothing of soundness, or a position within its bounds
 
 pub Sound-back_by : (n : ℕ) (s : Stream) → n ≤ hw_avail s → Sound s → Sound (back_by n s)
-Sound-back_by n s l h = Sound-as s (back_by n s) refl (λ c q. IsConfigured-back_by c n s l q) (λ q. record { state = q.state; setup = q.setup; stands = q.stands; unmapped = q.unmapped; taken = q.taken; to_give = q.to_give; kept = q.kept }) h
+Sound-back_by n s l h = Sound-as s (back_by n s) refl (λ c q. IsConfigured-back_by c n s l q) (λ q. record { state = q.state; setup = q.setup; at = bare_appl (s.at.appl - n) s q (let z : s.at.appl ≡ 0 = bare_none s q in omega (arith, z)); moved = q.moved; stands = q.stands; unmapped = q.unmapped; taken = q.taken; to_give = q.to_give; kept = q.kept }) h
 
 pub Sound-on_by : (n : ℕ) (s : Stream) → n ≤ avail s → Sound s → Sound (on_by n s)
-Sound-on_by n s l h = Sound-as s (on_by n s) refl (λ c q. IsConfigured-on_by c n s l q) (λ q. record { state = q.state; setup = q.setup; stands = q.stands; unmapped = q.unmapped; taken = q.taken; to_give = q.to_give; kept = q.kept }) h
+Sound-on_by n s l h = Sound-as s (on_by n s) refl (λ c q. IsConfigured-on_by c n s l q) (λ q. record { state = q.state; setup = q.setup; at = bare_appl (s.at.appl + n) s q (let z : s.at.appl ≡ 0 = bare_none s q in let a : avail s ≡ 0 = bare_avail s q in omega (arith, z, a, l)); moved = q.moved; stands = q.stands; unmapped = q.unmapped; taken = q.taken; to_give = q.to_give; kept = q.kept }) h
 
 pub Sound-sync_to : (n : ℕ) (s : Stream) → Sound s → Sound (sync_to n s)
-Sound-sync_to n s h = Sound-as s (sync_to n s) refl (λ c q. IsConfigured-sync_to c n s q) (λ q. record { state = q.state; setup = q.setup; stands = q.stands; unmapped = q.unmapped; taken = q.taken; to_give = q.to_give; kept = q.kept }) h
+Sound-sync_to n s h = Sound-as s (sync_to n s) refl (λ c q. IsConfigured-sync_to c n s q) (λ q. record { state = q.state; setup = q.setup; at = bare_appl (head s - (head s - n) % s.setup.boundary) s q (let a : head s ≡ 0 = bare_head s q in omega (arith, a)); moved = q.moved; stands = q.stands; unmapped = q.unmapped; taken = q.taken; to_give = q.to_give; kept = q.kept }) h
 
 pub Sound-put_next : (fs : List Frame) (s : Stream) → length fs ≤ avail s → Sound s → Sound (put_next fs s)
-Sound-put_next fs s l h = Sound-as s (put_next fs s) refl (λ c q. IsConfigured-put_next c fs s l q) (λ q. record { state = q.state; setup = q.setup; stands = q.stands; unmapped = q.unmapped; taken = q.taken; to_give = q.to_give; kept = q.kept }) h
+Sound-put_next fs s l h = Sound-as s (put_next fs s) refl (λ c q. IsConfigured-put_next c fs s l q) (λ q. record { state = q.state; setup = q.setup; at = bare_appl (s.at.appl + length fs) s q (let z : s.at.appl ≡ 0 = bare_none s q in let a : avail s ≡ 0 = bare_avail s q in omega (arith, z, a, l)); moved = q.moved; stands = q.stands; unmapped = q.unmapped; taken = q.taken; to_give = q.to_give; kept = q.kept }) h
 
 -- other sleepers, puts, plan, and frames to give
 pub IsConfigured-changed : (c : Config) (s : Stream) (qs : List Put) (ps : List Waiting) (m : ℕ) (plan : List Bool) (gs : List Frame) → IsConfigured c s → IsConfigured c (record s { puts = qs; sleepers = ps; mappings = m; card = record s.card { plan = plan; to_give = gs } })
@@ -99,13 +120,13 @@ IsConfigured-changed c s qs ps m plan gs h =
     (record { reported = p.reported; near = p.near; origin = p.origin; filled = p.filled; written = p.written; fewer = p.fewer }) refl refl refl refl h
 
 pub Sound-sleepers : (ps : List Waiting) (s : Stream) → Sound s → Sound (record s { sleepers = ps })
-Sound-sleepers ps s h = Sound-as s (record s { sleepers = ps }) refl (λ c q. IsConfigured-changed c s s.puts ps s.mappings s.card.plan s.card.to_give q) (λ q. record { state = q.state; setup = q.setup; stands = q.stands; unmapped = q.unmapped; taken = q.taken; to_give = q.to_give; kept = q.kept }) h
+Sound-sleepers ps s h = Sound-as s (record s { sleepers = ps }) refl (λ c q. IsConfigured-changed c s s.puts ps s.mappings s.card.plan s.card.to_give q) (λ q. record { state = q.state; setup = q.setup; at = q.at; moved = q.moved; stands = q.stands; unmapped = q.unmapped; taken = q.taken; to_give = q.to_give; kept = q.kept }) h
 
 pub Sound-puts : (qs : List Put) (s : Stream) → Sound s → Sound (record s { puts = qs })
-Sound-puts qs s h = Sound-as s (record s { puts = qs }) refl (λ c q. IsConfigured-changed c s qs s.sleepers s.mappings s.card.plan s.card.to_give q) (λ q. record { state = q.state; setup = q.setup; stands = q.stands; unmapped = q.unmapped; taken = q.taken; to_give = q.to_give; kept = q.kept }) h
+Sound-puts qs s h = Sound-as s (record s { puts = qs }) refl (λ c q. IsConfigured-changed c s qs s.sleepers s.mappings s.card.plan s.card.to_give q) (λ q. record { state = q.state; setup = q.setup; at = q.at; moved = q.moved; stands = q.stands; unmapped = q.unmapped; taken = q.taken; to_give = q.to_give; kept = q.kept }) h
 
 pub Sound-plan : (plan : List Bool) (s : Stream) → Sound s → Sound (record s { card = record s.card { plan = plan } })
-Sound-plan plan s h = Sound-as s (record s { card = record s.card { plan = plan } }) refl (λ c q. IsConfigured-changed c s s.puts s.sleepers s.mappings plan s.card.to_give q) (λ q. record { state = q.state; setup = q.setup; stands = q.stands; unmapped = q.unmapped; taken = q.taken; to_give = q.to_give; kept = q.kept }) h
+Sound-plan plan s h = Sound-as s (record s { card = record s.card { plan = plan } }) refl (λ c q. IsConfigured-changed c s s.puts s.sleepers s.mappings plan s.card.to_give q) (λ q. record { state = q.state; setup = q.setup; at = q.at; moved = q.moved; stands = q.stands; unmapped = q.unmapped; taken = q.taken; to_give = q.to_give; kept = q.kept }) h
 
 -- transfers
 
@@ -240,6 +261,7 @@ KeepsSound-go_transfer k c x wanted io s h = by s.state s.dir
     by state.Running d = may
     by state.Paused d = may
     by state.Suspended d = gone
+    by state.Disconnected d = gone
     by state.Xrun d = gone
     by state.Draining dir.Playback = gone
     by state.Draining dir.Capture = KeepsSound-go_on k c x io (left_by c s) gone
@@ -254,7 +276,8 @@ KeepsSound-go_drain k c (outcome.Failed j) t h = h
 
 pub KeepsSound-go_task : (k : SubId) (c : ClientId) (q : Task) (io : List ℕ) (s : Stream) → Sound s → KeepsSound k (go_task c q io s)
 KeepsSound-go_task k c (task.Transfer x wanted) io s h = KeepsSound-go_transfer k c x wanted io s h
-KeepsSound-go_task k c task.Drain io s h = (h, refl, λ v o q. KeepsSound-go_drain k c o (after act.Watch v o s) (Sound-after k act.Watch v o s refl q h))
+KeepsSound-go_task k c task.Drain io s h = KeepsSound-if k (is_disconnected s.state) (fails errno.Ebadfd (left_by c s)) (Makes act.Watch s (go_drain c)) (λ _. Sound-left_by c s h)
+    (λ _. (h, refl, λ v o q. KeepsSound-go_drain k c o (after act.Watch v o s) (Sound-after k act.Watch v o s refl q h)))
 
 pub KeepsSound-go : (k : SubId) (c : ClientId) (io : List ℕ) (s : Stream) → Sound s → KeepsSound k (go c io s)
 KeepsSound-go k c io s h = by (waiting_of c s.sleepers)

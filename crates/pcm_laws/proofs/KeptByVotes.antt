@@ -39,6 +39,7 @@ kept_set_up state.Xrun h = refl
 kept_set_up state.Draining h = refl
 kept_set_up state.Paused h = refl
 kept_set_up state.Suspended h = refl
+kept_set_up state.Disconnected h = absurd (cc)
 
 prepares_from : (first : Bool) (d : Dir) (t : State) → cond first (refuses_unopened t) (permit kind.Prepare t d) ≡ None → is_set_up t ≡ true
 prepares_from true d state.Closed h = absurd (cc)
@@ -52,8 +53,10 @@ prepares_from first d state.Xrun h = refl
 prepares_from first d state.Draining h = refl
 prepares_from first d state.Paused h = refl
 prepares_from first d state.Suspended h = refl
+prepares_from true d state.Disconnected h = absurd (cc)
+prepares_from false d state.Disconnected h = absurd (cc)
 
-stopped_bare : (u : State) (s : Stream) (t : State) → is_set_up t ≡ false → elim t as (λ _. Stream) [ state.Opened ↦ s | state.Closed ↦ s | _ ↦ set_runs false (record s { state = u; kept = None }) ] ≡ s
+stopped_bare : (u : State) (s : Stream) (t : State) → is_set_up t ≡ false → elim t as (λ _. Stream) [ state.Opened ↦ s | state.Closed ↦ s | state.Disconnected ↦ s | _ ↦ set_runs false (record s { state = u; kept = None }) ] ≡ s
 stopped_bare u s state.Closed h = refl
 stopped_bare u s state.Opened h = refl
 stopped_bare u s state.Setup h = absurd (cc)
@@ -63,6 +66,7 @@ stopped_bare u s state.Xrun h = absurd (cc)
 stopped_bare u s state.Draining h = absurd (cc)
 stopped_bare u s state.Paused h = absurd (cc)
 stopped_bare u s state.Suspended h = absurd (cc)
+stopped_bare u s state.Disconnected h = refl
 
 drained_bare : (s : Stream) (d : Dir) (t : State) → is_set_up t ≡ false → elim d as (λ _. Stream) [
   | dir.Playback ↦ elim t as (λ _. Stream) [
@@ -85,6 +89,7 @@ drained_bare s dir.Playback state.Xrun h = absurd (cc)
 drained_bare s dir.Playback state.Draining h = absurd (cc)
 drained_bare s dir.Playback state.Paused h = absurd (cc)
 drained_bare s dir.Playback state.Suspended h = absurd (cc)
+drained_bare s dir.Playback state.Disconnected h = refl
 drained_bare s dir.Capture state.Closed h = refl
 drained_bare s dir.Capture state.Opened h = refl
 drained_bare s dir.Capture state.Setup h = absurd (cc)
@@ -94,6 +99,7 @@ drained_bare s dir.Capture state.Xrun h = absurd (cc)
 drained_bare s dir.Capture state.Draining h = absurd (cc)
 drained_bare s dir.Capture state.Paused h = absurd (cc)
 drained_bare s dir.Capture state.Suspended h = absurd (cc)
+drained_bare s dir.Capture state.Disconnected h = refl
 
 -- a stream without a configuration is left as it is
 pub bare_done : (a : Act) (s : Stream) → pre s a ≡ None → is_set_up s.state ≡ false → done a s ≡ s
@@ -115,7 +121,7 @@ pub Sound-consulted : (s : Stream) → Sound s → Sound (consulted s)
 Sound-consulted s h = Sound-as s (consulted s) refl
     (λ c k. IsConfigured-at c s (consulted s) (IsShaped-as c s (consulted s) refl refl refl k.shaped)
     (record { reported = k.placed.reported; near = k.placed.near; origin = k.placed.origin; written = k.placed.written; fewer = k.placed.fewer; filled = k.placed.filled }) refl refl refl refl k)
-    (λ k. record { state = k.state; setup = k.setup; stands = k.stands; unmapped = k.unmapped; taken = k.taken; to_give = k.to_give; kept = k.kept }) h
+    (λ k. record { state = k.state; setup = k.setup; at = k.at; moved = k.moved; stands = k.stands; unmapped = k.unmapped; taken = k.taken; to_give = k.to_give; kept = k.kept }) h
 
 pub Sound-asked : (a : Act) (s : Stream) → Sound s → Sound (asked s a)
 Sound-asked a s h = by (asks s a)
@@ -158,4 +164,4 @@ Sound-after k a v (outcome.Refused j e) s i f h = h
 Sound-after k a v (outcome.Failed j) s i f h = failed (was_asked v) a s h
 
 pub Sound-fresh : (m : CardModel) (d : Dir) (n : ℕ) → Sound (fresh m d n)
-Sound-fresh m d n = record { state = refl; setup = refl; stands = refl; unmapped = refl; taken = refl; to_give = refl; kept = refl }
+Sound-fresh m d n = record { state = refl; setup = refl; at = refl; moved = refl; stands = refl; unmapped = refl; taken = refl; to_give = refl; kept = refl }

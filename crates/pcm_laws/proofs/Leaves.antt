@@ -35,7 +35,7 @@ begins : (A : Type 0) (f : Stream → A) → IsLeft A f → (t : State) (s : Str
 begins A f l t s = l.fill (set_runs true (set_state t s)) ∙ moves A f l t s.kept true s
 
 stops : (A : Type 0) (f : Stream → A) → IsLeft A f → (u : State) (s : Stream) (t : State)
-    → f (elim t as (λ _. Stream) [ state.Opened ↦ s | state.Closed ↦ s | _ ↦ set_runs false (record s { state = u; kept = None }) ]) ≡ f s
+    → f (elim t as (λ _. Stream) [ state.Opened ↦ s | state.Closed ↦ s | state.Disconnected ↦ s | _ ↦ set_runs false (record s { state = u; kept = None }) ]) ≡ f s
 stops A f l u s state.Closed = refl
 stops A f l u s state.Opened = refl
 stops A f l u s state.Setup = moves A f l u None false s
@@ -45,6 +45,7 @@ stops A f l u s state.Xrun = moves A f l u None false s
 stops A f l u s state.Draining = moves A f l u None false s
 stops A f l u s state.Paused = moves A f l u None false s
 stops A f l u s state.Suspended = moves A f l u None false s
+stops A f l u s state.Disconnected = refl
 
 resumes : (A : Type 0) (f : Stream → A) → IsLeft A f → (s : Stream) (k : Option State) → f (elim k as (λ _. Stream) [ None ↦ s | Some t ↦ set_runs (runs_in s.dir t) (record s { state = t; kept = None }) ]) ≡ f s
 resumes A f l s None = refl
@@ -75,6 +76,7 @@ drains_as A f l s dir.Playback state.Xrun = l.state state.Setup s.kept s
 drains_as A f l s dir.Playback state.Draining = refl
 drains_as A f l s dir.Playback state.Paused = refl
 drains_as A f l s dir.Playback state.Suspended = refl
+drains_as A f l s dir.Playback state.Disconnected = refl
 drains_as A f l s dir.Capture state.Closed = refl
 drains_as A f l s dir.Capture state.Opened = refl
 drains_as A f l s dir.Capture state.Setup = refl
@@ -86,6 +88,7 @@ drains_as A f l s dir.Capture state.Xrun = refl
 drains_as A f l s dir.Capture state.Draining = refl
 drains_as A f l s dir.Capture state.Paused = refl
 drains_as A f l s dir.Capture state.Suspended = refl
+drains_as A f l s dir.Capture state.Disconnected = refl
 
 pub IsLeft-done : (A : Type 0) (f : Stream → A) → IsLeft A f → (a : Act) (s : Stream) → f (done a s) ≡ f s
 IsLeft-done A f l act.Start s = begins A f l state.Running s

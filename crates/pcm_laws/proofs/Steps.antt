@@ -7,7 +7,7 @@ use Rattle.pcm_base.specs.model.Acts.{subs}
 use Rattle.pcm_base.specs.model.Events.{program}
 use Rattle.pcm_base.specs.model.Group.{Run, group_step, mark, run, run_event, stream_of}
 use Rattle.pcm_base.specs.model.Program.{Program}
-use Rattle.pcm_base.specs.model.Replay.{Decided, Decomposes, Distinct, Joins, Plays, PlaysOwn, bytes_by, is_member, layout_of, parts_of}
+use Rattle.pcm_base.specs.model.Replay.{Decided, Decomposes, Distinct, IsLent, Joins, Plays, PlaysOwn, bytes_by, is_link, is_member, layout_of, parts_of, reading_length}
 use Rattle.pcm_base.specs.model.Sleep.{group_drains}
 use Rattle.pcm_laws.specs.Soundness.{AllSound, AllStop}
 use Rattle.pcm_laws.proofs.KeptByReplays.{AllStop-parts_of, Joins-sound, Plays-sound}
@@ -43,16 +43,18 @@ acts-group_step e c k io ms d h =
     (Decomposes-run p k ms d h).few 3 (AtMost-program e c (nat_lt 1 (length ms)) io (stream_of k ms))
 
 -- the own step of the named member, as an entry of its log plays it
-pub PlaysOwn-group_step : (e : Call) (c : ClientId) (k : SubId) (io : List ℕ) (ms : List Member) → Distinct (subs ms) → is_member k (subs ms) ≡ true
-    → PlaysOwn k e c (nat_lt 1 (length ms)) (length io) (bytes_by (layout_of e c (stream_of k ms)) (stream_of k ms) (group_step e c k io ms).answer.frames)
+pub PlaysOwn-group_step : (e : Call) (c : ClientId) (k : SubId) (count : ℕ) (io : List ℕ) (ms : List Member) → Distinct (subs ms) → is_member k (subs ms) ≡ true
+    → is_link e ≡ false → IsLent (reading_length e c (stream_of k ms)) count (length io)
+    → PlaysOwn k e c (nat_lt 1 (length ms)) count (bytes_by (layout_of e c (stream_of k ms)) (stream_of k ms) (group_step e c k io ms).answer.frames)
     (parts_of k (subs ms) (group_step e c k io ms).acts) (group_step e c k io ms).answer.reply (stream_of k ms) (stream_of k (group_step e c k io ms).members)
-PlaysOwn-group_step e c k io ms d h =
+PlaysOwn-group_step e c k count io ms d h alone fits =
     let p : Program = program e c (nat_lt 1 (length ms)) io (stream_of k ms) in
     let r : Run = run p k ms in
     record {
       io = io;
       answer = r.answer;
-      handed = refl;
+      handed = fits;
+      no_link = alone;
       says = refl;
       moved = refl;
       plays = subst (λ t. Plays k p (parts_of k (subs ms) r.acts) r.answer t) (sym (stream_of-group_step e c k io k ms)) ((Decomposes-run p k ms d h).own);

@@ -1,5 +1,5 @@
 -- Soundness of a stream is kept by all that a stream can come to.
-use Rattle.std.specs.Prelude.{◌≡◌, ℕ, Bool, true, List, [], ◌∷◌, length, ◌≤◌}
+use Rattle.std.specs.Prelude.{◌≡◌, ℕ, Bool, true, false, List, [], ◌∷◌, length, ◌≤◌}
 use Rattle.pcm_base.specs.declared.act.Act.{Act}
 use Rattle.pcm_base.specs.declared.act.Outcome.{Outcome}
 use Rattle.pcm_base.specs.declared.act.Vote.{Vote}
@@ -9,8 +9,9 @@ use Rattle.pcm_base.specs.declared.ids.ClientId.{ClientId}
 use Rattle.pcm_base.specs.declared.ids.SubId.{SubId}
 use Rattle.pcm_base.specs.declared.reply.Reply.{Reply}
 use Rattle.pcm_base.specs.declared.state.Dir.{Dir}
-use Rattle.pcm_base.specs.model.Acts.{after, subs}
-use Rattle.pcm_base.specs.model.Events.{program}
+use Rattle.pcm_base.specs.declared.state.State.{State}
+use Rattle.pcm_base.specs.model.Acts.{after, stopped, subs}
+use Rattle.pcm_base.specs.model.Events.{program, unplugged}
 use Rattle.pcm_base.specs.model.Frame.{Frame}
 use Rattle.pcm_base.specs.model.Group.{stream_of, group_step}
 use Rattle.pcm_base.specs.model.Movement.{move}
@@ -69,6 +70,13 @@ ForwardKeepsSound = (n : ℕ) (s : Stream) → n ≤ avail s → Sound s → Sou
 
 abbrev pub SyncKeepsSound : Type 0
 SyncKeepsSound = (p : ℕ) (s : Stream) → Sound s → Sound (sync_to p s)
+
+-- a stop leaves no card running, and a card that stands may be unplugged
+abbrev pub StopsStand : Type 0
+StopsStand = (t : State) (s : Stream) → Sound s → (stopped t s).card.runs ≡ false
+
+abbrev pub UnplugKeepsSound : Type 0
+UnplugKeepsSound = (s : Stream) → s.card.runs ≡ false → Sound s → Sound (unplugged s)
 
 abbrev pub PutKeepsSound : Type 0
 PutKeepsSound = (fs : List Frame) (s : Stream) → length fs ≤ avail s → Sound s → Sound (put_next fs s)

@@ -10,7 +10,7 @@ use Rattle.pcm_base.specs.model.Acts.{after, subs}
 use Rattle.pcm_base.specs.model.Events.{program}
 use Rattle.pcm_base.specs.model.Group.{stream_of, put_stream, run, run_event, group_step}
 use Rattle.pcm_base.specs.model.Program.{Program}
-use Rattle.pcm_base.specs.model.Replay.{AtMost, PlaysOwn, Joins, bytes_by, layout_of, parts_of, is_member, Distinct, Decided, Decomposes}
+use Rattle.pcm_base.specs.model.Replay.{AtMost, IsLent, PlaysOwn, Joins, bytes_by, is_link, layout_of, reading_length, parts_of, is_member, Distinct, Decided, Decomposes}
 use Rattle.pcm_base.specs.model.Stream.{Stream, Member}
 
 -- what no act changes of a stream
@@ -55,10 +55,11 @@ StepsMakeFewActs = (e : Call) (c : ClientId) (k : SubId) (io : List ℕ) (ms : L
 abbrev pub VotesDecideSteps : Type 0
 VotesDecideSteps = (e : Call) (c : ClientId) (k : SubId) (io : List ℕ) (ms : List Member) → Distinct (subs ms) → is_member k (subs ms) ≡ true → Decided (subs ms) (group_step e c k io ms).acts
 
--- the named member's part is an entry of its log: the bytes that were handed in, its reply and the bytes that moved
+-- The named member's part is an entry of its log: the count of bytes that were handed in, of which the event was lent these, its reply and the bytes that moved. A link is no step of a group.
 abbrev pub NamedMemberPlaysOwn : Type 0
-NamedMemberPlaysOwn = (e : Call) (c : ClientId) (k : SubId) (io : List ℕ) (ms : List Member) → Distinct (subs ms) → is_member k (subs ms) ≡ true
-    → PlaysOwn k e c (nat_lt 1 (length ms)) (length io) (bytes_by (layout_of e c (stream_of k ms)) (stream_of k ms) (group_step e c k io ms).answer.frames)
+NamedMemberPlaysOwn = (e : Call) (c : ClientId) (k : SubId) (count : ℕ) (io : List ℕ) (ms : List Member) → Distinct (subs ms) → is_member k (subs ms) ≡ true
+    → is_link e ≡ false → IsLent (reading_length e c (stream_of k ms)) count (length io)
+    → PlaysOwn k e c (nat_lt 1 (length ms)) count (bytes_by (layout_of e c (stream_of k ms)) (stream_of k ms) (group_step e c k io ms).answer.frames)
     (parts_of k (subs ms) (group_step e c k io ms).acts) (group_step e c k io ms).answer.reply (stream_of k ms) (stream_of k (group_step e c k io ms).members)
 
 -- the part of each other member is its joints alone

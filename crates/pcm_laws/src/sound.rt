@@ -1,13 +1,13 @@
 //! Sound streams stay sound: the invariant of a stream, and all that keeps it. This project's own.
 
-ghost use Rattle.pcm_laws.specs.Soundness.{ActsKeepSound, ForwardKeepsSound, FreshIsSound, JointsKeepSound, MoveKeepsSound, OwnEntriesKeepSound, ProgramsKeepSound, PutKeepsSound, RewindKeepsSound, StepsKeepSound, SyncKeepsSound, UpdateKeepsSound};
+ghost use Rattle.pcm_laws.specs.Soundness.{ActsKeepSound, ForwardKeepsSound, FreshIsSound, JointsKeepSound, MoveKeepsSound, OwnEntriesKeepSound, ProgramsKeepSound, PutKeepsSound, RewindKeepsSound, StepsKeepSound, StopsStand, SyncKeepsSound, UnplugKeepsSound, UpdateKeepsSound};
 
 /// A stream that no client has opened is sound.
 pub fn fresh_streams()
     ensures { FreshIsSound }
 {}
 
-/// Updates, movements of the card, pointer calls and frames that are put keep a stream sound. Counts are in frames.
+/// Updates, movements of the card, pointer calls, frames that are put and an unplugged card keep a stream sound. Counts are in frames.
 pub fn changes()
     ensures update { UpdateKeepsSound }
     ensures movement { MoveKeepsSound }
@@ -15,6 +15,8 @@ pub fn changes()
     ensures forward { ForwardKeepsSound }
     ensures sync { SyncKeepsSound }
     ensures put { PutKeepsSound }
+    ensures stop { StopsStand }
+    ensures unplug { UnplugKeepsSound }
 {}
 
 /// An act keeps each member sound, by any vote and outcome that fit.

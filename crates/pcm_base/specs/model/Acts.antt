@@ -27,10 +27,11 @@ use Rattle.pcm_base.specs.model.Words.{when, ◌then◌, is_playback, runs_in, i
 abbrev pub table : CallKind → Stream → Option Errno
 table k s = permit k s.state s.dir
 
--- only OPEN and CLOSED refuse
+-- only CLOSED, OPEN and DISCONNECTED refuse
 abbrev pub refuses_unopened : State → Option Errno
 refuses_unopened state.Closed = Some errno.Enxio
 refuses_unopened state.Opened = Some errno.Ebadfd
+refuses_unopened state.Disconnected = Some errno.Ebadfd
 refuses_unopened _ = None
 
 -- a playback stream that is on its way to its end
@@ -122,9 +123,9 @@ drained s = elim s.dir [
   ]
 ]
 
--- the effect of a stop to state t; nothing where no client has a configuration
+-- the effect of a stop to state t; nothing in OPEN, CLOSED and DISCONNECTED
 abbrev pub stopped : State → Stream → Stream
-stopped t s = elim s.state [ state.Opened ↦ s | state.Closed ↦ s | _ ↦ set_runs false (record s { state = t; kept = None }) ]
+stopped t s = elim s.state [ state.Opened ↦ s | state.Closed ↦ s | state.Disconnected ↦ s | _ ↦ set_runs false (record s { state = t; kept = None }) ]
 
 -- the effect of a resume
 abbrev pub resumed : Stream → Stream

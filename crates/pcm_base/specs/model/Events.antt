@@ -35,9 +35,9 @@ use Rattle.pcm_base.specs.model.PointerCalls.{hw_avail, back_by, on_by, sync_to}
 use Rattle.pcm_base.specs.model.Program.{Program, Ends, Makes, says, fails, unless, making, act_alone, updating, updated_or_epipe}
 use Rattle.pcm_base.specs.model.Software.{refuses_sw}
 use Rattle.pcm_base.specs.model.Standing.{put_at, standing_at}
-use Rattle.pcm_base.specs.model.Stream.{Setup, Waiting, Stream, no_setup, idle_card, all_at, avail, shown, zero_frame}
+use Rattle.pcm_base.specs.model.Stream.{Setup, Waiting, Stream, no_setup, idle_card, all_at, is_bare, avail, shown, zero_frame}
 use Rattle.pcm_base.specs.model.Transfer.{frames_or, sleeping, write_on, read_on, is_whole, frames_in, frames_by, write, read}
-use Rattle.pcm_base.specs.model.Words.{when, ◌then◌, is_playback, is_closed, is_open, is_running, is_paused, is_suspended}
+use Rattle.pcm_base.specs.model.Words.{when, ◌then◌, is_playback, is_closed, is_running, is_paused, is_suspended, is_disconnected}
 
 -- what a client sees; zeros where there is no configuration
 abbrev pub page : Stream → Page
@@ -132,7 +132,7 @@ length_of task.Drain s = 0
 
 abbrev pub go_task : ClientId → Task → List ℕ → Stream → Program
 go_task c (task.Transfer x wanted) io s = go_transfer c x wanted io s
-go_task c task.Drain io s = Makes act.Watch s (go_drain c)
+go_task c task.Drain io s = if is_disconnected s.state then fails errno.Ebadfd (left_by c s) else Makes act.Watch s (go_drain c)
 
 -- a call in progress is entered again, with its own bytes
 abbrev pub go : ClientId → List ℕ → Stream → Program
@@ -174,6 +174,13 @@ set_mappings n s = record s { mappings = n }
 
 abbrev pub set_sw : SwParams → Stream → Stream
 set_sw w s = record s { setup = record s.setup { sw = w } }
+
+-- The card is gone: its stream alone becomes DISCONNECTED, and what is configured stays.
+abbrev pub unplugged : Stream → Stream
+unplugged s = record s { state = state.Disconnected; kept = None }
+
+abbrev pub unplug_alone : Stream → Program
+unplug_alone s = says reply.Ok (unplugged s)
 
 -- an answer with frames, the first of them the first of the call
 abbrev pub hands : Reply → List Frame → Stream → Program
@@ -227,8 +234,9 @@ event (call.MoveBy n) c linked io s = let m = move n s in hands m.reply m.frames
 event call.Irq c linked io s = updating s (λ u. says reply.Ok)
 event (call.FailAt i) c linked io s = if nat_le 1 i && nat_le i 64 then says reply.Ok (plan_set i s) else fails errno.Einval s
 event call.Give c linked io s =
-    unless (when (is_open s.state || is_playback s.dir || not (is_whole s io)) errno.Einval) s
+    unless (when (is_bare s || is_playback s.dir || not (is_whole s io)) errno.Einval) s
     (hands reply.Ok (frames_in s io) (record s { card = record s.card { to_give = frames_in s io } }))
+event call.Unplug c linked io s = unless (table kind.Unplug s) s (if s.card.runs then making (act.Stop state.Setup) s unplug_alone else unplug_alone s)
 
 abbrev pub opens : Call → Bool
 opens call.OpenSub = true

@@ -1,5 +1,5 @@
 -- The replay of one stream's part in a step: its own program with the joints that its log holds, or the joints alone.
-use Rattle.std.specs.Prelude.{◌≡◌, ◌≢◌, ℕ, Bool, true, false, ◌||◌, nat_eq, List, [], ◌∷◌, length, zero, suc, ◌/◌, ◌≤◌, if◌then◌else◌}
+use Rattle.std.specs.Prelude.{◌≡◌, ◌≢◌, ℕ, Bool, true, false, ◌||◌, nat_eq, List, [], ◌∷◌, length, zero, suc, ◌*◌, ◌/◌, ◌≤◌, if◌then◌else◌}
 use Rattle.std.specs.declared.option.Option.{Option}
 use Rattle.std.specs.declared.option.Option.TheVariants.{Some, None}
 use Rattle.pcm_base.specs.declared.act.Act.{Act}
@@ -18,7 +18,7 @@ use Rattle.pcm_base.specs.declared.sleeper.Task.{Task}
 use Rattle.pcm_base.specs.declared.sleeper.Task.TheVariants as task
 use Rattle.pcm_base.specs.declared.votes.Acted.{Acted}
 use Rattle.pcm_base.specs.model.Acts.{pre, trips, subs, decide, after}
-use Rattle.pcm_base.specs.model.Events.{waiting_of, program}
+use Rattle.pcm_base.specs.model.Events.{waiting_of, length_of, program}
 use Rattle.pcm_base.specs.model.Frame.{Frame, bytes_of, bytes_across}
 use Rattle.pcm_base.specs.model.Group.{stream_of, Run}
 use Rattle.pcm_base.specs.model.Program.{Answer, Program, Ends, Makes}
@@ -79,11 +79,34 @@ abbrev pub bytes_by : Layout → Stream → List Frame → List ℕ
 bytes_by layout.Interleaved s fs = bytes_of fs
 bytes_by layout.Planar s fs = bytes_across (channels_of s.setup.config) (s.setup.frame_bytes / channels_of s.setup.config) fs
 
--- An own entry of member j: some bytes of the count that was handed in, of which those that the step moves are the entry's, give its reply with its joints.
+-- the bytes of a read that goes on
+abbrev pub going_length : Option Task → Stream → Option ℕ
+going_length (Some (task.Transfer x wanted)) s = if x.writing then None else Some (length_of (task.Transfer x wanted) s)
+going_length _ s = None
+
+-- the bytes of a call that reads: of a read that begins, of a load, and of a read that goes on
+abbrev pub reading_length : Call → ClientId → Stream → Option ℕ
+reading_length (call.Read w m n) c s = Some (n * s.setup.frame_bytes)
+reading_length (call.Load o n) c s = Some (n * s.setup.frame_bytes)
+reading_length call.Go c s = going_length (waiting_of c s.sleepers) s
+reading_length _ c s = None
+
+-- Of the bytes that its caller handed in, a call that reads is lent the front of its own length, which they have; any other is lent all.
+abbrev pub IsLent : Option ℕ → ℕ → ℕ → Type 0
+IsLent None count lent = lent ≡ count
+IsLent (Some n) count lent = (lent ≡ n) × (n ≤ count)
+
+-- a link is no event of one member
+abbrev pub is_link : Call → Bool
+is_link (call.Link j) = true
+is_link _ = false
+
+-- An own entry of member j, marked with the count of bytes that its caller handed in: some bytes that the event was lent, of which those that the step moves are the entry's, give its reply with its joints.
 pub record PlaysOwn (j : SubId) (e : Call) (c : ClientId) (linked : Bool) (count : ℕ) (bytes : List ℕ) (ps : List Part) (r : Reply) (s t : Stream) : Type 0 where
   pub io : List ℕ
   pub answer : Answer
-  pub handed : length io ≡ count
+  pub handed : IsLent (reading_length e c s) count (length io)
+  pub no_link : is_link e ≡ false
   pub plays : Plays j (program e c linked io s) ps answer t
   pub says : answer.reply ≡ r
   pub moved : bytes_by (layout_of e c s) s answer.frames ≡ bytes

@@ -7,7 +7,7 @@ use Rattle.pcm_base.specs.declared.state.State.{State}
 use Rattle.pcm_base.specs.declared.state.State.TheVariants as state
 use Rattle.pcm_base.specs.model.Acts.{drains}
 use Rattle.pcm_base.specs.model.Stream.{Waiting, Stream, Member, avail}
-use Rattle.pcm_base.specs.model.Words.{◌then◌}
+use Rattle.pcm_base.specs.model.Words.{◌then◌, is_disconnected}
 
 -- a transfer may wait in these states
 abbrev pub waits_in : State → Bool
@@ -21,10 +21,10 @@ abbrev pub group_drains : List Member → Bool
 group_drains [] = false
 group_drains (m ∷ ms) = drains m.stream || group_drains ms
 
--- the task may wait on this stream, where the test says whether its group drains
+-- the task may wait on this stream, where the test says whether its group drains; a drain waits on no card that is gone
 abbrev pub may_wait : Bool → Stream → Task → Bool
 may_wait g s (task.Transfer x wanted) = waits_in s.state && nat_lt (avail s) wanted
-may_wait g s task.Drain = g
+may_wait g s task.Drain = g && not (is_disconnected s.state)
 
 abbrev pub is_among : ClientId → List ClientId → Bool
 is_among c [] = false

@@ -16,14 +16,21 @@ use Rattle.pcm_base.specs.model.Allowed.{buffer_of, frame_bytes_of, accepts}
 use Rattle.pcm_base.specs.model.Program.{Program, Ends, Makes}
 use Rattle.pcm_base.specs.model.Replay.{Fits}
 use Rattle.pcm_base.specs.model.Software.{refuses_sw}
-use Rattle.pcm_base.specs.model.Stream.{Stream, no_setup, head, avail}
+use Rattle.pcm_base.specs.model.Stream.{Stream, no_setup, all_at, head, avail}
 use Rattle.pcm_base.specs.model.Words.{runs_in}
 
--- a state of a stream with a configuration
+-- a state in which every stream has a configuration
 abbrev pub is_set_up : State → Bool
 is_set_up state.Closed = false
 is_set_up state.Opened = false
+is_set_up state.Disconnected = false
 is_set_up _ = true
+
+-- a state of a stream with a configuration; in DISCONNECTED it has the one that it had, if any
+abbrev pub may_be_set_up : State → Bool
+may_be_set_up state.Closed = false
+may_be_set_up state.Opened = false
+may_be_set_up _ = true
 
 -- a state that a suspended stream keeps
 abbrev pub may_keep : State → Bool
@@ -62,14 +69,16 @@ pub record IsShaped (c : Config) (s : Stream) : Type 0 where
 pub record IsConfigured (c : Config) (s : Stream) : Type 0 where
   pub shaped : IsShaped c s
   pub placed : IsPlaced s
-  pub state : is_set_up s.state ≡ true
+  pub state : may_be_set_up s.state ≡ true
   pub running : s.card.runs ≡ runs_in s.dir s.state
   pub kept : keeps s.state s.kept ≡ true
 
--- a stream without a configuration
+-- a stream without a configuration, in CLOSED, OPEN or DISCONNECTED
 pub record IsBare (s : Stream) : Type 0 where
   pub state : is_set_up s.state ≡ false
   pub setup : s.setup ≡ no_setup
+  pub at : s.at ≡ all_at 0
+  pub moved : s.moved ≡ 0
   pub stands : s.card.runs ≡ false
   pub unmapped : s.mappings ≡ 0
   pub taken : s.card.taken ≡ []

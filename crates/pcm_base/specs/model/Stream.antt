@@ -1,7 +1,7 @@
 -- A stream (struct snd_pcm_runtime of include/sound/pcm.h): what is configured, where it stands, its card and the calls in progress on it.
-use Rattle.std.specs.Prelude.{ℕ, Bool, false, List, [], replicate, ◌+◌, ◌-◌, ◌%◌}
+use Rattle.std.specs.Prelude.{ℕ, Bool, true, false, List, [], replicate, ◌+◌, ◌-◌, ◌%◌}
 use Rattle.std.specs.declared.option.Option.{Option}
-use Rattle.std.specs.declared.option.Option.TheVariants.{None}
+use Rattle.std.specs.declared.option.Option.TheVariants.{Some, None}
 use Rattle.pcm_base.specs.declared.config.CardModel.{CardModel}
 use Rattle.pcm_base.specs.declared.config.Config.{Config}
 use Rattle.pcm_base.specs.declared.config.SwParams.{SwParams}
@@ -90,6 +90,10 @@ no_model = record { accesses = 0; formats = 0; channels = record { least = 0; mo
 -- what stands for the stream of a substream that is no member
 abbrev pub no_stream : Stream
 no_stream = fresh no_model dir.Playback 0
+
+-- without a configuration: OPEN, or unplugged in OPEN
+abbrev pub is_bare : Stream → Bool
+is_bare s = elim s.setup.config [ None ↦ true | Some c ↦ false ]
 
 -- up to where a client may move: a playback client may fill the buffer ahead of the reported position, a capture client may read up to it (snd_pcm_playback_avail, snd_pcm_capture_avail)
 abbrev pub head_of : Dir → ℕ → ℕ → ℕ

@@ -25,8 +25,8 @@ use Rattle.pcm_base.specs.model.Frame.{Frame, frames_of, planar_frames}
 use Rattle.pcm_base.specs.model.PointerCalls.{on_by}
 use Rattle.pcm_base.specs.model.Program.{Program, Ends, Makes, says, unless, making, updated_or_epipe}
 use Rattle.pcm_base.specs.model.Standing.{put_at, standing_at}
-use Rattle.pcm_base.specs.model.Stream.{Waiting, Stream, avail, zero_frame}
-use Rattle.pcm_base.specs.model.Words.{when, ◌then◌, is_playback, is_open, is_prepared, is_draining}
+use Rattle.pcm_base.specs.model.Stream.{Waiting, Stream, is_bare, avail, zero_frame}
+use Rattle.pcm_base.specs.model.Words.{when, ◌then◌, is_playback, is_prepared, is_draining}
 
 -- the position p + i ends a ring, or all n frames are moved
 abbrev pub is_halt : ℕ → ℕ → ℕ → ℕ → Bool
@@ -124,7 +124,7 @@ beq false b = not b
 abbrev pub misfit : Stream → Bool → Layout → Bool → Option Errno
 misfit s writing w whole =
     when (not (beq writing (is_playback s.dir))) errno.Einval
-    then (when (is_open s.state) errno.Ebadfd
+    then (when (is_bare s) errno.Ebadfd
     then (when (not (fits w s.setup.config)) errno.Einval
     then when (not whole) errno.Einval))
 

@@ -34,10 +34,6 @@ abbrev pub is_closed : State → Bool
 is_closed state.Closed = true
 is_closed _ = false
 
-abbrev pub is_open : State → Bool
-is_open state.Opened = true
-is_open _ = false
-
 abbrev pub is_prepared : State → Bool
 is_prepared state.Prepared = true
 is_prepared _ = false
@@ -57,6 +53,10 @@ is_paused _ = false
 abbrev pub is_suspended : State → Bool
 is_suspended state.Suspended = true
 is_suspended _ = false
+
+abbrev pub is_disconnected : State → Bool
+is_disconnected state.Disconnected = true
+is_disconnected _ = false
 
 -- the two are one state
 abbrev pub same_state : State → State → Bool

@@ -1,6 +1,6 @@
 use Rattle.pcm_laws.proofs.KeptByMoves.{Sound-update}
 use Rattle.pcm_laws.proofs.KeptByPrograms.{Sound-back_by, Sound-on_by, Sound-sync_to, Sound-put_next}
-use Rattle.pcm_laws.proofs.KeptByEvents.{Sound-move}
+use Rattle.pcm_laws.proofs.KeptByEvents.{Sound-move, Sound-unplugged, stands-stopped}
 use Rattle.pcm_laws.proofs.sound.changes.Goals as goal
 
 pub returns-clause-update : goal.returns-clause-update
@@ -20,3 +20,9 @@ returns-clause-sync c = Sound-sync_to
 
 pub returns-clause-put : goal.returns-clause-put
 returns-clause-put c = Sound-put_next
+
+pub returns-clause-stop : goal.returns-clause-stop
+returns-clause-stop c = stands-stopped
+
+pub returns-clause-unplug : goal.returns-clause-unplug
+returns-clause-unplug c = Sound-unplugged
