@@ -1,5 +1,5 @@
 -- The marks of the model, as calls come, go and are checked.
-use Rattle.std.proofs.Common.{◌≡◌, ℕ, Bool, true, false, not, cond, ◌&&◌, ◌||◌, List, [], ◌∷◌, ◌++◌, refl, sym, ◌∙◌, ap, subst, eqb, nat_eq, eqb-true}
+use Rattle.std.proofs.Common.{◌≡◌, ℕ, suc, Bool, true, false, not, cond, ◌&&◌, ◌||◌, List, [], ◌∷◌, ◌++◌, length, refl, sym, ◌∙◌, ap, subst, eqb, nat_eq, eqb-true}
 use Rattle.std.specs.List.{AllByRecursion}
 use Rattle.std.proofs.lemmas.List.Elements.{All-from_recursion, All-filter, recursion_from_All}
 use Rattle.std.specs.Option.{option_map}
@@ -12,7 +12,7 @@ use Rattle.pcm_base.specs.model.Sleep.{is_among, without_client, may_wait, sleep
 use Rattle.pcm_base.specs.model.Stream.{Stream, Waiting, avail}
 use Rattle.pcm_base.specs.model.Events.{others_than as others_waiting, waiting_of}
 use Rattle.sleepers.specs.Clients.{is_of, has_client, others_than, sleeper_of, AreApart}
-use Rattle.sleepers.specs.Wake.{may_wait_on, wakes, woken_sleepers, after_check, clients_of}
+use Rattle.sleepers.specs.Wake.{may_wait_on, wakes, woken_sleepers, after_check, asleep_again, clients_of}
 use Rattle.sleepers.specs.Marks.{waiting, AreMarks, IsModelCheck}
 use Rattle.sleepers.proofs.ClientLemmas.{eqb-sym_false, eqb-same, or-false_left, or-false_right, has_client-same, filter-none, list_any-others}
 use Rattle.sleepers.proofs.WakeLemmas.{has_client-checked}
@@ -169,3 +169,52 @@ unfolding Marks
 AreMarks-take c marks xs h =
     let others = All-filter (λ x. not (is_of c x)) (λ x. is_among x.client marks ≡ x.asleep) xs h in
     All-from_recursion _ _ (marks-without c marks (others_than c xs) (list_any-others (is_of c) xs) (recursion_from_All _ (others_than c xs) others))
+
+-- ---- a call that falls asleep again
+
+or-true : (a : Bool) → a || true ≡ true
+or-true true = refl
+or-true false = refl
+
+or-false : (a : Bool) → a || false ≡ a
+or-false true = refl
+or-false false = refl
+
+eqb-flip : (m n : ℕ) (b : Bool) → nat_eq m n ≡ b → nat_eq n m ≡ b
+eqb-flip m n true e = let is : m ≡ n = eqb-true m n e in subst (λ k. nat_eq k m ≡ true) is (eqb-same m)
+eqb-flip m n false e = eqb-sym_false m n e
+
+pub waiting-marked : (c : ClientId) (xs : List Sleeper) → waiting (asleep_again c xs) ≡ waiting xs
+waiting-marked c [] = refl
+waiting-marked c (x ∷ xs) = ap (λ (ps : List Waiting). record { client = x.client; task = x.task } ∷ ps) (waiting-marked c xs)
+
+has_client-marked : (c d : ClientId) (xs : List Sleeper) → has_client d (asleep_again c xs) ≡ has_client d xs
+has_client-marked c d [] = refl
+has_client-marked c d (x ∷ xs) = ap (λ b. is_of d x || b) (has_client-marked c d xs)
+
+pub AreApart-marked : (c : ClientId) (xs : List Sleeper) → AreApart xs → AreApart (asleep_again c xs)
+AreApart-marked c [] h = tt
+AreApart-marked c (x ∷ xs) h = (h.0, has_client-marked c x.client xs ∙ h.1, AreApart-marked c xs h.2)
+
+pub length-marked : (c : ClientId) (xs : List Sleeper) → length (asleep_again c xs) ≡ length xs
+length-marked c [] = refl
+length-marked c (x ∷ xs) = ap suc (length-marked c xs)
+
+-- the mark of one client is set, whether it was or not
+mark-here : (c d : ClientId) (marks : List ClientId) (b : Bool) → nat_eq d.0 c.0 ≡ b → is_among d (c ∷ without_client c marks) ≡ is_among d marks || b
+mark-here c d marks true e =
+    ap (λ a. a || is_among d (without_client c marks)) (eqb-flip d.0 c.0 true e) ∙ sym (or-true (is_among d marks))
+mark-here c d marks false e =
+    ap (λ a. a || is_among d (without_client c marks)) (eqb-sym_false d.0 c.0 e) ∙ is_among-without_other c d marks e ∙ sym (or-false (is_among d marks))
+
+marks-marked : (c : ClientId) (marks : List ClientId) (xs : List Sleeper) → Marks marks xs → Marks (c ∷ without_client c marks) (asleep_again c xs)
+unfolding Marks
+marks-marked c marks [] h = tt
+marks-marked c marks (x ∷ xs) h = (
+  mark-here c x.client marks (is_of c x) refl ∙ ap (λ a. a || is_of c x) h.0,
+  marks-marked c marks xs h.1,
+)
+
+pub AreMarks-again : (c : ClientId) (marks : List ClientId) (xs : List Sleeper) → AreMarks marks xs → AreMarks (c ∷ without_client c marks) (asleep_again c xs)
+unfolding Marks
+AreMarks-again c marks xs h = All-from_recursion _ _ (marks-marked c marks xs (recursion_from_All _ xs h))

@@ -1,16 +1,18 @@
 -- Who may wait on a substream, and who is woken (wait_for_avail and snd_pcm_drain of sound/core).
-use Rattle.std.specs.Prelude.{ℕ, Bool, not, ◌&&◌, nat_lt, List, map, filter}
+use Rattle.std.specs.Prelude.{ℕ, Bool, not, ◌&&◌, ◌||◌, nat_lt, List, map, filter}
 use Rattle.pcm_base.specs.declared.ids.ClientId.{ClientId}
 use Rattle.pcm_base.specs.declared.sleeper.Sleeper.{Sleeper}
 use Rattle.pcm_base.specs.declared.sleeper.Task.{Task}
 use Rattle.pcm_base.specs.declared.sleeper.Task.TheVariants as task
 use Rattle.pcm_base.specs.declared.state.State.{State}
 use Rattle.pcm_base.specs.model.Sleep.{waits_in}
+use Rattle.pcm_base.specs.model.Words.{is_disconnected}
+use Rattle.sleepers.specs.Clients.{is_of}
 
 -- The task may wait in this state, with so many frames available, where the test says whether the group drains.
 abbrev pub may_wait_on : State → ℕ → Bool → Task → Bool
 may_wait_on s available group_drains (task.Transfer x wanted) = waits_in s && nat_lt available wanted
-may_wait_on s available group_drains task.Drain = group_drains
+may_wait_on s available group_drains task.Drain = group_drains && not (is_disconnected s)
 
 -- a sleeper that is asleep and may no longer wait
 abbrev pub wakes : State → ℕ → Bool → Sleeper → Bool
@@ -29,3 +31,10 @@ after_check s available group_drains xs = map (checked s available group_drains)
 
 abbrev pub clients_of : List Sleeper → List ClientId
 clients_of xs = map (λ x. x.client) xs
+
+-- the client's call is asleep, and each other as it was
+abbrev pub marked : ClientId → Sleeper → Sleeper
+marked c x = record x { asleep = x.asleep || is_of c x }
+
+abbrev pub asleep_again : ClientId → List Sleeper → List Sleeper
+asleep_again c xs = map (marked c) xs

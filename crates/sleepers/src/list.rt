@@ -4,14 +4,14 @@ ghost use Rattle.std.specs.Option.{option_map};
 ghost use Rattle.pcm_base.specs.model.Events.{others_than as others_waiting, waiting_of};
 ghost use Rattle.pcm_base.specs.model.Sleep.{mask_of, without_client};
 ghost use Rattle.pcm_base.specs.model.Stream.{Stream, avail as avail_of};
-ghost use Rattle.sleepers.specs.Clients.{has_client, is_asleep_of, is_of, others_than, sleeper_of};
+ghost use Rattle.sleepers.specs.Clients.{AreApart, has_client, is_asleep_of, is_of, others_than, sleeper_of};
 ghost use Rattle.sleepers.specs.Marks.{waiting, AreMarks, IsModelCheck};
-ghost use Rattle.sleepers.specs.Wake.{after_check, clients_of, may_wait_on, woken_sleepers};
+ghost use Rattle.sleepers.specs.Wake.{after_check, asleep_again, clients_of, may_wait_on, woken_sleepers};
 
 use crate::place::Place;
-use crate::wake::wake_each;
+use crate::wake::{mark_each, wake_each};
 use arrayvec::ArrayVec;
-use pcm_base::{ClientId, Dir, Sleeper, State};
+use pcm_base::{ClientId, Dir, Sleeper, State, Task};
 use std::marker::Model;
 
 /// The calls in progress on one substream, in the order in which they came, at most one of each client. Contracts see
@@ -58,6 +58,7 @@ impl Sleepers {
         requires client { s.client.0 ≤ 15 }
         requires none { has_client s.client self.old ≡ false }
         ensures after { self.new ≡ self.old ++ s ∷ [] }
+        ensures apart { AreApart self.new }
         ensures marks { (marks : List ClientId) → s.asleep ≡ true → AreMarks marks self.old
             → AreMarks (s.client ∷ without_client s.client marks) self.new }
     {
@@ -70,6 +71,7 @@ impl Sleepers {
         ensures none { IsNone result ↔ (has_client client self.old ≡ false) }
         ensures others { self.new ≡ others_than client self.old }
         ensures gone { has_client client self.new ≡ false }
+        ensures apart { AreApart self.new }
 
         // As the model has them.
         ensures task { option_map (λ x. x.task) result ≡ waiting_of client (waiting self.old) }
@@ -91,6 +93,7 @@ impl Sleepers {
     /// both directions.
     pub fn wake_check(&mut self, state: State, _dir: Dir, avail: u64, group_drains: bool) -> u16
         ensures after { self.new ≡ after_check state avail group_drains self.old }
+        ensures apart { AreApart self.new }
         ensures asleep { All (λ x. IsTrue x.asleep → IsTrue (may_wait_on state avail group_drains x.task)) self.new }
         ensures mask { result ≡ mask_of (clients_of (woken_sleepers state avail group_drains self.old)) }
         ensures bits { (i : ℕ) → IsBitSet result i
@@ -101,6 +104,32 @@ impl Sleepers {
             → AreMarks marks self.old → IsModelCheck group_drains s marks self.old self.new result }
     {
         wake_each(self.items.as_mut_slice(), state, avail, group_drains)
+    }
+
+    /// What the client's call waits for; None where it has none here. The call stays.
+    pub fn task(&self, client: ClientId) -> Option<Task>
+        ensures { result ≡ waiting_of client (waiting self.now) }
+    {
+        match place_of(&self.items, client) {
+            Some(at) => {
+                let place = self.items[at];
+                Some(place.sleeper.task)
+            }
+            None => None,
+        }
+    }
+
+    /// Marks the client's call asleep, which keeps its place; nothing changes where it has none here.
+    pub fn sleep_again(&mut self, client: ClientId)
+        ensures after { self.new ≡ asleep_again client self.old }
+        ensures apart { AreApart self.new }
+
+        // As the model has them.
+        ensures waiting { waiting self.new ≡ waiting self.old }
+        ensures marks { (marks : List ClientId) → AreMarks marks self.old
+            → AreMarks (client ∷ without_client client marks) self.new }
+    {
+        mark_each(self.items.as_mut_slice(), client);
     }
 
     /// Whether the client's call is asleep here.

@@ -43,6 +43,8 @@ fn a_sleeper_wakes_once_it_may_no_longer_wait(rt: HostRuntime) {
         (Task::Drain, State::Draining, 0, true, false),
         (Task::Drain, State::Setup, 0, true, false),
         (Task::Drain, State::Setup, 0, false, true),
+        (WRITE, State::Disconnected, 0, true, true),
+        (Task::Drain, State::Disconnected, 0, true, true),
     ];
     for (task, state, avail, group_drains, wakes) in checks {
         let mut sleepers = Sleepers::new();
@@ -54,6 +56,9 @@ fn a_sleeper_wakes_once_it_may_no_longer_wait(rt: HostRuntime) {
             "{task:?} in {state:?}"
         );
         assert_eq!(rt; sleepers.is_asleep(ClientId(3)), !wakes);
+        sleepers.sleep_again(ClientId(3));
+        assert!(rt; sleepers.is_asleep(ClientId(3)));
+        assert_eq!(rt; sleepers.task(ClientId(3)), Some(task));
     }
 }
 

@@ -1,10 +1,11 @@
 // Who is woken.
 ghost use Rattle.std.specs.Prelude.{◌≡◌, map, All, ◌<◌};
 ghost use Rattle.pcm_base.specs.model.Sleep.{mask_of, waits_in};
-ghost use Rattle.sleepers.specs.Wake.{after_check, clients_of, may_wait_on, wakes as is_to_wake, woken_sleepers};
+ghost use Rattle.pcm_base.specs.model.Words.{is_disconnected};
+ghost use Rattle.sleepers.specs.Wake.{after_check, asleep_again, clients_of, may_wait_on, wakes as is_to_wake, woken_sleepers};
 
 use crate::place::Place;
-use pcm_base::{Sleeper, State, Task};
+use pcm_base::{ClientId, Sleeper, State, Task};
 
 // A transfer may wait in these states.
 fn is_waiting_state(state: State) -> bool
@@ -13,13 +14,20 @@ fn is_waiting_state(state: State) -> bool
     matches!(state, State::Prepared | State::Running | State::Paused)
 }
 
+// The card is gone.
+fn is_gone(state: State) -> bool
+    ensures { result ≡ is_disconnected state }
+{
+    matches!(state, State::Disconnected)
+}
+
 // Whether the task may wait, where so many frames are available.
 fn may_wait(task: Task, state: State, avail: u64, group_drains: bool) -> bool
     ensures { result ≡ may_wait_on state avail group_drains task }
 {
     match task {
         Task::Transfer(_, wanted) => is_waiting_state(state) && avail < wanted,
-        Task::Drain => group_drains,
+        Task::Drain => group_drains && !is_gone(state),
     }
 }
 
@@ -45,4 +53,13 @@ pub(crate) fn wake_each(places: &mut [Place], state: State, avail: u64, group_dr
         }
     }
     woken
+}
+
+/// Marks the client's call asleep.
+pub(crate) fn mark_each(places: &mut [Place], client: ClientId)
+    ensures { places.new ≡ asleep_again client places.old }
+{
+    for place in places.iter_mut() {
+        place.sleeper.asleep = place.sleeper.asleep || place.sleeper.client == client;
+    }
 }

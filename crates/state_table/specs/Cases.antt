@@ -16,4 +16,4 @@ answer_of (Some errno) = Err errno
 abbrev pub cell_in : List (Option Errno) → State → Dir → Option Errno
 cell_in row s d =
     let column : ℕ → Option Errno = λ n. slice_index_or row n None in
-    cells d s (column 0) (column 1) (column 2) (column 3) (column 4) (column 5) (column 6) (column 7) (column 8)
+    cells d s (column 0) (column 1) (column 2) (column 3) (column 4) (column 5) (column 6) (column 7) (column 8) (column 9)

@@ -18,7 +18,7 @@ struct Cases<const N: usize> {
 
 impl<const N: usize> Cases<N> {
     fn cell(&self, state: State, dir: Dir) -> Option<Errno>
-        requires { 9 ≤ N }
+        requires { 10 ≤ N }
         ensures { result ≡ cell_in self.now.cells state dir }
     {
         match (state, dir) {
@@ -32,11 +32,12 @@ impl<const N: usize> Cases<N> {
             (State::Draining, Dir::Capture) => self.cells[6],
             (State::Paused, _) => self.cells[7],
             (State::Suspended, _) => self.cells[8],
+            (State::Disconnected, _) => self.cells[9],
         }
     }
 
     fn answer(&self, state: State, dir: Dir) -> Result<(), Errno>
-        requires { 9 ≤ N }
+        requires { 10 ≤ N }
         ensures { result ≡ answer_of (cell_in self.now.cells state dir) }
     {
         match self.cell(state, dir) {
@@ -83,33 +84,34 @@ pub fn permit(kind: CallKind, state: State, dir: Dir) -> Result<(), Errno>
 {
     cases! { kind state dir;
         //                                                     DRAINING
-        //                OPEN   SETUP  PREP.  RUN.   XRUN   playb. capt.  PAUSED SUSPENDED
-        [HwParams]        ok     ok     ok     Ebadfd Ebadfd Ebadfd Ebadfd Ebadfd Ebadfd;
-        [HwFree]          Ebadfd ok     ok     Ebadfd Ebadfd Ebadfd Ebadfd Ebadfd Ebadfd;
-        [SwParams]        Ebadfd ok     ok     ok     ok     ok     ok     ok     ok;
-        [Prepare]         Ebadfd ok     ok     Ebusy  ok     Ebusy  ok     ok     ok;
-        [Start]           Ebadfd Ebadfd ok     Ebadfd Ebadfd Ebadfd Ebadfd Ebadfd Ebadfd;
-        [DropNow]         Ebadfd ok     ok     ok     ok     ok     ok     ok     ok;
-        [Drain]           Ebadfd ok     ok     ok     ok     ok     ok     ok     Ebadfd;
-        [PausePush]       Ebadfd Ebadfd Ebadfd ok     Ebadfd Ebadfd Ebadfd Ebadfd Ebadfd;
-        [PauseRelease]    Ebadfd Ebadfd Ebadfd Ebadfd Ebadfd Ebadfd Ebadfd ok     Ebadfd;
-        [Suspend]         Ebusy  Ebusy  ok     ok     ok     ok     ok     ok     Ebusy;
-        [Resume]          Ebadfd Ebadfd Ebadfd Ebadfd Ebadfd Ebadfd Ebadfd Ebadfd ok;
-        [Xrun]            Ebadfd Ebadfd Ebadfd ok     ok     Ebadfd Ebadfd Ebadfd Ebadfd;
-        [Write Playback]  Ebadfd Ebadfd ok     ok     Epipe  Ebadfd other  ok     Estrpipe;
-        [Write Capture]   Einval Einval Einval Einval Einval other  Einval Einval Einval;
-        [Read Capture]    Ebadfd Ebadfd ok     ok     Epipe  other  ok     ok     Estrpipe;
-        [Read Playback]   Einval Einval Einval Einval Einval Einval other  Einval Einval;
-        [Rewind]          Ebadfd Ebadfd ok     ok     Epipe  ok     Ebadfd ok     Estrpipe;
-        [Forward]         Ebadfd Ebadfd ok     ok     Epipe  ok     Ebadfd ok     Estrpipe;
-        [Hwsync]          Ebadfd Ebadfd ok     ok     Epipe  ok     Ebadfd ok     Estrpipe;
-        [Delay]           Ebadfd Ebadfd ok     ok     Epipe  ok     Ebadfd ok     Estrpipe;
-        [SyncPtr]         Ebadfd ok     ok     ok     ok     ok     ok     ok     ok;
-        [Status]          ok     ok     ok     ok     ok     ok     ok     ok     ok;
-        [Poll]            ok     ok     ok     ok     ok     ok     ok     ok     ok;
-        [Map]             Ebadfd ok     ok     ok     ok     ok     ok     ok     ok;
-        [Link]            Ebadfd ok     ok     ok     ok     ok     ok     ok     ok;
-        [Unlink]          ok     ok     ok     ok     ok     ok     ok     ok     ok;
+        //                OPEN   SETUP  PREP.  RUN.   XRUN   playb. capt.  PAUSED SUSPENDED DISCONNECTED
+        [HwParams]        ok     ok     ok     Ebadfd Ebadfd Ebadfd Ebadfd Ebadfd Ebadfd    Ebadfd;
+        [HwFree]          Ebadfd ok     ok     Ebadfd Ebadfd Ebadfd Ebadfd Ebadfd Ebadfd    Ebadfd;
+        [SwParams]        Ebadfd ok     ok     ok     ok     ok     ok     ok     ok        Ebadfd;
+        [Prepare]         Ebadfd ok     ok     Ebusy  ok     Ebusy  ok     ok     ok        Ebadfd;
+        [Start]           Ebadfd Ebadfd ok     Ebadfd Ebadfd Ebadfd Ebadfd Ebadfd Ebadfd    Ebadfd;
+        [DropNow]         Ebadfd ok     ok     ok     ok     ok     ok     ok     ok        Ebadfd;
+        [Drain]           Ebadfd ok     ok     ok     ok     ok     ok     ok     Ebadfd    Ebadfd;
+        [PausePush]       Ebadfd Ebadfd Ebadfd ok     Ebadfd Ebadfd Ebadfd Ebadfd Ebadfd    Ebadfd;
+        [PauseRelease]    Ebadfd Ebadfd Ebadfd Ebadfd Ebadfd Ebadfd Ebadfd ok     Ebadfd    Ebadfd;
+        [Suspend]         Ebusy  Ebusy  ok     ok     ok     ok     ok     ok     Ebusy     Ebadfd;
+        [Resume]          Ebadfd Ebadfd Ebadfd Ebadfd Ebadfd Ebadfd Ebadfd Ebadfd ok        Ebadfd;
+        [Xrun]            Ebadfd Ebadfd Ebadfd ok     ok     Ebadfd Ebadfd Ebadfd Ebadfd    Ebadfd;
+        [Write Playback]  Ebadfd Ebadfd ok     ok     Epipe  Ebadfd other  ok     Estrpipe  Ebadfd;
+        [Write Capture]   Einval Einval Einval Einval Einval other  Einval Einval Einval    Einval;
+        [Read Capture]    Ebadfd Ebadfd ok     ok     Epipe  other  ok     ok     Estrpipe  Ebadfd;
+        [Read Playback]   Einval Einval Einval Einval Einval Einval other  Einval Einval    Einval;
+        [Rewind]          Ebadfd Ebadfd ok     ok     Epipe  ok     Ebadfd ok     Estrpipe  Ebadfd;
+        [Forward]         Ebadfd Ebadfd ok     ok     Epipe  ok     Ebadfd ok     Estrpipe  Ebadfd;
+        [Hwsync]          Ebadfd Ebadfd ok     ok     Epipe  ok     Ebadfd ok     Estrpipe  Ebadfd;
+        [Delay]           Ebadfd Ebadfd ok     ok     Epipe  ok     Ebadfd ok     Estrpipe  Ebadfd;
+        [SyncPtr]         Ebadfd ok     ok     ok     ok     ok     ok     ok     ok        Ebadfd;
+        [Status]          ok     ok     ok     ok     ok     ok     ok     ok     ok        ok;
+        [Poll]            ok     ok     ok     ok     ok     ok     ok     ok     ok        ok;
+        [Map]             Ebadfd ok     ok     ok     ok     ok     ok     ok     ok        Ebadfd;
+        [Link]            Ebadfd ok     ok     ok     ok     ok     ok     ok     ok        Ebadfd;
+        [Unlink]          ok     ok     ok     ok     ok     ok     ok     ok     ok        ok;
+        [Unplug]          ok     ok     ok     ok     ok     ok     ok     ok     ok        Ebadfd;
     }
 }
 

@@ -28,3 +28,8 @@ returns-clause-marks c =
     c.push.ensures.items ∙ ap (λ (x : Sleeper). before ++ x ∷ []) c.of.ensures in
     subst (AreMarks (s.client ∷ without_client s.client marks)) (sym items)
     (AreMarks-add marks before s none asleep (subst (AreMarks marks) (sym c.self.view_is) h))
+
+pub returns-clause-apart : goal.returns-clause-apart
+returns-clause-apart c =
+    rw (c.push.ensures.items, c.of.ensures)
+    (AreApart-append_one _ c.args.s c.self.invariant (rw c.self.view_is c.requires.none) (omega arith))

@@ -2,7 +2,7 @@ use Rattle.std.proofs.Common.{◌≡◌, sym, ◌∙◌, ap, subst, refl}
 use Rattle.std.specs.Option.{option_map}
 use Rattle.std.specs.declared.option.Option.TheVariants.{Some}
 use Rattle.pcm_base.specs.model.Sleep.{without_client}
-use Rattle.sleepers.specs.Clients.{is_of, sleeper_of}
+use Rattle.sleepers.specs.Clients.{AreApart, is_of, sleeper_of}
 use Rattle.sleepers.specs.Marks.{waiting, AreMarks}
 use Rattle.sleepers.proofs.ClientLemmas.{taken-at, absent-from, AreApart-filter, list_any-others}
 use Rattle.sleepers.proofs.MarkLemmas.{task-waiting, waiting-others, AreMarks-take}
@@ -90,3 +90,11 @@ returns-in-None-clause-task c =
     let nowhere = absent-from _ _ _ _ c.in-None.is c.place_of.ensures c.deref.ensures.0 in
     rw (← c.self.view_is)
     (sym (ap (option_map (λ x. x.task)) nowhere.found) ∙ task-waiting c.args.client c.self.inside.items.items)
+
+pub returns-in-Some-clause-apart : goal.returns-in-Some-clause-apart
+returns-in-Some-clause-apart c =
+    let there = taken-at _ _ _ _ _ c.self.invariant c.in-Some.is c.place_of.ensures c.deref.ensures.0 in
+    rw (c.remove-place.ensures.items, there.others) (AreApart-filter _ _ c.self.invariant)
+
+pub returns-in-None-clause-apart : goal.returns-in-None-clause-apart
+returns-in-None-clause-apart c = subst AreApart c.self.view_is c.self.invariant

@@ -42,3 +42,8 @@ returns-clause-model c =
     rw (c.wake_each.ensures.woken, c.as_mut_slice.ensures.value, ← c.self.view_is, left c)
     (λ s marks at_state at_avail h. rw (← at_state, ← at_avail)
     (model_check c.args.group_drains s marks c.self.inside.items.items c.self.invariant h))
+
+pub returns-clause-apart : goal.returns-clause-apart
+returns-clause-apart c =
+    subst AreApart (sym (left c))
+    (AreApart-checked c.args.state c.args.avail c.args.group_drains c.self.inside.items.items c.self.invariant)
