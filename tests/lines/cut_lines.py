@@ -10,7 +10,7 @@ import re
 
 ACCESSES = ["RW_INTERLEAVED", "RW_NONINTERLEAVED", "MMAP_INTERLEAVED", "MMAP_NONINTERLEAVED"]
 FORMATS = ["S8", "U8", "S16_LE", "S16_BE", "S24_LE", "S32_LE", "S32_BE", "S24_3LE"]
-MODELS = ["basic", "duplex", "studio", "nopause", "noresume"]
+MODELS = ["basic", "duplex", "studio", "nopause", "noresume", "indirect"]
 
 
 def below(letter):
@@ -49,6 +49,7 @@ FORMS = {
     "go": "client",
     "move": "sub number",
     "irq": "sub",
+    "unplug": "sub",
     "fail": "sub number",
     "give": "sub hex",
     "feed": "sub name",
@@ -57,6 +58,9 @@ FORMS = {
     "beat": "sub number number",
     "threads": "",
     "join": "",
+    "version": "number",
+    "carry": "sub sub",
+    "wire": "sub sub",
 }
 for plain in (
     "open close hwfree prepare start drop pause release suspend resume xrun hwsync delay status page poll mmap munmap"
@@ -67,6 +71,7 @@ for plain in (
 LINES = [
     "long 1023",
     "card s0 duplex p",
+    "card s1 indirect c",
     "open c0 s10",
     "close c15 s15",
     "hw c0 s0 RW_INTERLEAVED S24_3LE 2 48000 10 4",
@@ -103,6 +108,7 @@ LINES = [
     "move s0 40",
     "irq s0",
     "fail s0 1",
+    "unplug s0",
     "give s0 7f",
     "feed s0 a.wav",
     "save s0 a-b",
@@ -110,6 +116,9 @@ LINES = [
     "beat s0 4 10",
     "threads",
     "join",
+    "version 2",
+    "carry s0 s15",
+    "wire s10 s1",
 ]
 
 

@@ -189,6 +189,7 @@ read_after-form keyword.Sw at = refl
 read_after-form keyword.Long at = refl
 read_after-form keyword.Card at = refl
 read_after-form keyword.Fail at = refl
+read_after-form keyword.Unplug at = refl
 read_after-form keyword.Give at = refl
 read_after-form keyword.Feed at = refl
 read_after-form keyword.Save at = refl
@@ -196,6 +197,9 @@ read_after-form keyword.Space at = refl
 read_after-form keyword.Beat at = refl
 read_after-form keyword.Threads at = refl
 read_after-form keyword.Join at = refl
+read_after-form keyword.Version at = refl
+read_after-form keyword.Carry at = refl
+read_after-form keyword.Wire at = refl
 
 in-form : (piece : List ℕ) (k : Keyword) (at : Place) → piece ≡ text_of k → read_others (keyword_for piece) at ≡ read_by (form_of k) at
 in-form piece k at e = rw (e, (keyword-again k).1) (read_after-form k at)

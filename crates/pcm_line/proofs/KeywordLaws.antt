@@ -1,7 +1,7 @@
 -- Keywords: each is found, has no space, and what is found is spelled so.
-use Rattle.std.specs.Prelude.{Option, Some, None}
-use Rattle.std.proofs.Common.{◌≡◌, true, ℕ, List, refl}
-use Rattle.pcm_line.specs.Tables.{entry_for, or_else, keyword_for, frequent_words, transfer_words, query_words, start_words, pause_words, link_words, setup_words, card_words, plan_words}
+use Rattle.std.specs.Prelude.{Option, Some, None, length, ◌==◌, nat_lt}
+use Rattle.std.proofs.Common.{◌≡◌, Bool, true, false, cond, ℕ, List, refl}
+use Rattle.pcm_line.specs.Tables.{entry_for, or_else, four_letters, keyword_for, words_of_four, other_words_of_four, words_of_five, words_of_six, words_of_seven, short_words}
 use Rattle.pcm_line.specs.declared.keyword.Keyword.{Keyword}
 use Rattle.pcm_line.specs.declared.keyword.Keyword.TheVariants as keyword
 use Rattle.pcm_line.specs.Keywords.{text_of}
@@ -47,6 +47,7 @@ keyword-again keyword.Sw = (refl, refl)
 keyword-again keyword.Long = (refl, refl)
 keyword-again keyword.Card = (refl, refl)
 keyword-again keyword.Fail = (refl, refl)
+keyword-again keyword.Unplug = (refl, refl)
 keyword-again keyword.Give = (refl, refl)
 keyword-again keyword.Feed = (refl, refl)
 keyword-again keyword.Save = (refl, refl)
@@ -54,20 +55,28 @@ keyword-again keyword.Space = (refl, refl)
 keyword-again keyword.Beat = (refl, refl)
 keyword-again keyword.Threads = (refl, refl)
 keyword-again keyword.Join = (refl, refl)
+keyword-again keyword.Version = (refl, refl)
+keyword-again keyword.Carry = (refl, refl)
+keyword-again keyword.Wire = (refl, refl)
 
 or_else-is : (p : List ℕ) (k : Keyword) (a b : Option Keyword) → (a ≡ Some k → p ≡ text_of k) → (b ≡ Some k → p ≡ text_of k) → or_else a b ≡ Some k → p ≡ text_of k
 or_else-is p k None b f g e = g e
 or_else-is p k (Some x) b f g e = f e
 
+either-is : (p : List ℕ) (k : Keyword) (t : Bool) (a b : Option Keyword) → (a ≡ Some k → p ≡ text_of k) → (b ≡ Some k → p ≡ text_of k) → cond t a b ≡ Some k → p ≡ text_of k
+either-is p k true a b f g e = f e
+either-is p k false a b f g e = g e
+
 pub keyword_for-is : (p : List ℕ) (k : Keyword) → keyword_for p ≡ Some k → p ≡ text_of k
 keyword_for-is p k e =
-    let frequent : entry_for p frequent_words ≡ Some k → p ≡ text_of k = entry_for-is text_of p k frequent_words (refl, (refl, (refl, (refl, (refl, (refl, tt)))))) in
-    let transfer : entry_for p transfer_words ≡ Some k → p ≡ text_of k = entry_for-is text_of p k transfer_words (refl, (refl, (refl, (refl, (refl, tt))))) in
-    let query : entry_for p query_words ≡ Some k → p ≡ text_of k = entry_for-is text_of p k query_words (refl, (refl, (refl, (refl, (refl, tt))))) in
-    let start : entry_for p start_words ≡ Some k → p ≡ text_of k = entry_for-is text_of p k start_words (refl, (refl, (refl, (refl, (refl, tt))))) in
-    let pause : entry_for p pause_words ≡ Some k → p ≡ text_of k = entry_for-is text_of p k pause_words (refl, (refl, (refl, (refl, (refl, tt))))) in
-    let link : entry_for p link_words ≡ Some k → p ≡ text_of k = entry_for-is text_of p k link_words (refl, (refl, (refl, (refl, tt)))) in
-    let setup : entry_for p setup_words ≡ Some k → p ≡ text_of k = entry_for-is text_of p k setup_words (refl, (refl, (refl, (refl, (refl, tt))))) in
-    let card : entry_for p card_words ≡ Some k → p ≡ text_of k = entry_for-is text_of p k card_words (refl, (refl, (refl, (refl, (refl, tt))))) in
-    let plan : entry_for p plan_words ≡ Some k → p ≡ text_of k = entry_for-is text_of p k plan_words (refl, (refl, (refl, (refl, (refl, tt))))) in
-    or_else-is p k (entry_for p frequent_words) (or_else (entry_for p transfer_words) (or_else (entry_for p query_words) (or_else (entry_for p start_words) (or_else (entry_for p pause_words) (or_else (entry_for p link_words) (or_else (entry_for p setup_words) (or_else (entry_for p card_words) (entry_for p plan_words)))))))) frequent (or_else-is p k (entry_for p transfer_words) (or_else (entry_for p query_words) (or_else (entry_for p start_words) (or_else (entry_for p pause_words) (or_else (entry_for p link_words) (or_else (entry_for p setup_words) (or_else (entry_for p card_words) (entry_for p plan_words))))))) transfer (or_else-is p k (entry_for p query_words) (or_else (entry_for p start_words) (or_else (entry_for p pause_words) (or_else (entry_for p link_words) (or_else (entry_for p setup_words) (or_else (entry_for p card_words) (entry_for p plan_words)))))) query (or_else-is p k (entry_for p start_words) (or_else (entry_for p pause_words) (or_else (entry_for p link_words) (or_else (entry_for p setup_words) (or_else (entry_for p card_words) (entry_for p plan_words))))) start (or_else-is p k (entry_for p pause_words) (or_else (entry_for p link_words) (or_else (entry_for p setup_words) (or_else (entry_for p card_words) (entry_for p plan_words)))) pause (or_else-is p k (entry_for p link_words) (or_else (entry_for p setup_words) (or_else (entry_for p card_words) (entry_for p plan_words))) link (or_else-is p k (entry_for p setup_words) (or_else (entry_for p card_words) (entry_for p plan_words)) setup (or_else-is p k (entry_for p card_words) (entry_for p plan_words) card plan))))))) e
+    let four : entry_for p words_of_four ≡ Some k → p ≡ text_of k = entry_for-is text_of p k words_of_four (refl, (refl, (refl, (refl, (refl, (refl, (refl, (refl, (refl, tt))))))))) in
+    let more : entry_for p other_words_of_four ≡ Some k → p ≡ text_of k = entry_for-is text_of p k other_words_of_four (refl, (refl, (refl, (refl, (refl, (refl, (refl, (refl, (refl, (refl, tt)))))))))) in
+    let six : entry_for p words_of_six ≡ Some k → p ≡ text_of k = entry_for-is text_of p k words_of_six (refl, (refl, (refl, (refl, (refl, (refl, (refl, (refl, (refl, (refl, tt)))))))))) in
+    let few : entry_for p short_words ≡ Some k → p ≡ text_of k = entry_for-is text_of p k short_words (refl, (refl, (refl, (refl, tt)))) in
+    let five : entry_for p words_of_five ≡ Some k → p ≡ text_of k = entry_for-is text_of p k words_of_five (refl, (refl, (refl, (refl, (refl, (refl, (refl, (refl, (refl, (refl, tt)))))))))) in
+    let seven : entry_for p words_of_seven ≡ Some k → p ≡ text_of k = entry_for-is text_of p k words_of_seven (refl, (refl, (refl, (refl, (refl, (refl, tt)))))) in
+    let fives = either-is p k (length p == 5) (entry_for p words_of_five) (entry_for p words_of_seven) five seven in
+    let fews = either-is p k (nat_lt (length p) 4) (entry_for p short_words) (cond (length p == 5) (entry_for p words_of_five) (entry_for p words_of_seven)) few fives in
+    let sixes = either-is p k (length p == 6) (entry_for p words_of_six) (cond (nat_lt (length p) 4) (entry_for p short_words) (cond (length p == 5) (entry_for p words_of_five) (entry_for p words_of_seven))) six fews in
+    let fours = or_else-is p k (entry_for p words_of_four) (entry_for p other_words_of_four) four more in
+    either-is p k (length p == 4) (four_letters p) (cond (length p == 6) (entry_for p words_of_six) (cond (nat_lt (length p) 4) (entry_for p short_words) (cond (length p == 5) (entry_for p words_of_five) (entry_for p words_of_seven)))) fours sixes e

@@ -77,7 +77,7 @@ is-spelled OfSub p v e =
     rw (← m.2) s
 is-spelled OfMode p v e = (tt, entry_for-is mode_text p v modes (refl, (refl, tt)) e)
 is-spelled OfDir p v e = (tt, entry_for-is dir_text p v dirs (refl, (refl, tt)) e)
-is-spelled OfModel p v e = (tt, entry_for-is model_text p v models (refl, (refl, (refl, (refl, (refl, tt))))) e)
+is-spelled OfModel p v e = (tt, entry_for-is model_text p v models (refl, (refl, (refl, (refl, (refl, (refl, tt)))))) e)
 is-spelled OfAccess p v e = (tt, entry_for-is access_text p v accesses (refl, (refl, (refl, (refl, tt)))) e)
 is-spelled OfFormat p v e = (tt, entry_for-is format_text p v formats (refl, (refl, (refl, (refl, (refl, (refl, (refl, (refl, tt)))))))) e)
 is-spelled OfHex p v e = hex-is p v e

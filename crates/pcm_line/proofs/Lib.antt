@@ -9,4 +9,4 @@ pub mod KeywordLaws
 pub mod GrammarLaws
 pub mod Spellings
 pub mod SayableLaws
-pub mod HexTable
+pub mod HexPairs

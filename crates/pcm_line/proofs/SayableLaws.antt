@@ -6,12 +6,12 @@ use Rattle.std.proofs.Common.{◌≡◌, ℕ, ◌<◌, List, [], refl, sym, ◌�
 use Rattle.pcm_base.specs.declared.ids.ClientId.{ClientId}
 use Rattle.pcm_base.specs.declared.ids.SubId.{SubId}
 use Rattle.pcm_base.specs.declared.call.Call.{Call}
-use Rattle.pcm_base.specs.declared.call.Call.TheVariants.{OpenSub, CloseSub, HwParams, HwFree, SwParams, Prepare, Start, DropNow, Drain, PausePush, PauseRelease, Suspend, Resume, Xrun, Write, Read, Rewind, Forward, Hwsync, Delay, SyncPtr, Status, PageNow, Poll, Map, Unmap, Store, Load, Link, Unlink, Go, MoveBy, Irq, FailAt, Give}
+use Rattle.pcm_base.specs.declared.call.Call.TheVariants.{OpenSub, CloseSub, HwParams, HwFree, SwParams, Prepare, Start, DropNow, Drain, PausePush, PauseRelease, Suspend, Resume, Xrun, Write, Read, Rewind, Forward, Hwsync, Delay, SyncPtr, Status, PageNow, Poll, Map, Unmap, Store, Load, Link, Unlink, Go, MoveBy, Irq, FailAt, Give, Unplug}
 use Rattle.pcm_base.specs.declared.call.Layout.TheVariants.{Interleaved, Planar}
 use Rattle.pcm_line.specs.declared.keyword.Keyword.{Keyword}
 use Rattle.pcm_line.specs.declared.keyword.Keyword.TheVariants as keyword
 use Rattle.pcm_line.specs.declared.line.Line.{Line}
-use Rattle.pcm_line.specs.declared.line.Line.TheVariants.{LongMax, Card, Event, Feed, Save, Space, Beat, Threads, Join}
+use Rattle.pcm_line.specs.declared.line.Line.TheVariants.{LongMax, Card, Event, Feed, Save, Space, Beat, Threads, Join, Version, Carry, Wire}
 use Rattle.pcm_line.specs.Forms.{Values, form_of, of_client, of_card}
 use Rattle.pcm_line.specs.Grammar.{AllFit, IsLine}
 use Rattle.pcm_line.specs.Sayable.{IsSayableEvent, Sayable, IsWellTyped}
@@ -56,6 +56,7 @@ means-sayable keyword.Sw v fit = record { caller = fit.0; sub = fit.1.0; operand
 means-sayable keyword.Long v fit = fit.0
 means-sayable keyword.Card v fit = fit.0
 means-sayable keyword.Fail v fit = record { caller = tt; sub = fit.0; operands = fit.1.0; only = refl }
+means-sayable keyword.Unplug v fit = record { caller = tt; sub = fit.0; operands = tt; only = refl }
 means-sayable keyword.Give v fit = record { caller = tt; sub = fit.0; operands = tt; only = tt }
 means-sayable keyword.Feed v fit = fit.0
 means-sayable keyword.Save v fit = fit.0
@@ -71,6 +72,9 @@ means-sayable keyword.Space v fit = record {
 means-sayable keyword.Beat v fit = (fit.0, fit.1.0, fit.1.1.0)
 means-sayable keyword.Threads v fit = tt
 means-sayable keyword.Join v fit = tt
+means-sayable keyword.Version v fit = fit.0
+means-sayable keyword.Carry v fit = (fit.0, fit.1.0)
+means-sayable keyword.Wire v fit = (fit.0, fit.1.0)
 
 -- what has a spelling can be said
 pub line-sayable : (bytes : List ℕ) (line : Line) → IsLine bytes line → Sayable line
@@ -119,6 +123,7 @@ card_line : (s : SubId) (call : Call) (bytes : List ℕ) → AllByRecursion (λ 
 card_line s (MoveBy n) bytes ok say = record { keyword = keyword.Move; values = (s, (n, tt)); fit = (say.sub, (say.operands, tt)); means = ap (λ (b : List ℕ). of_card s (MoveBy n) b) say.only; spelling = refl }
 card_line s Irq bytes ok say = record { keyword = keyword.Irq; values = (s, tt); fit = (say.sub, tt); means = ap (λ (b : List ℕ). of_card s Irq b) say.only; spelling = refl }
 card_line s (FailAt n) bytes ok say = record { keyword = keyword.Fail; values = (s, (n, tt)); fit = (say.sub, (say.operands, tt)); means = ap (λ (b : List ℕ). of_card s (FailAt n) b) say.only; spelling = refl }
+card_line s Unplug bytes ok say = record { keyword = keyword.Unplug; values = (s, tt); fit = (say.sub, tt); means = ap (λ (b : List ℕ). of_card s Unplug b) say.only; spelling = refl }
 card_line s Give bytes ok say = record { keyword = keyword.Give; values = (s, (bytes, tt)); fit = (say.sub, (ok, tt)); means = refl; spelling = refl }
 card_line s _ bytes ok say = absurd say.caller
 
@@ -137,3 +142,6 @@ line-spelled (Space m p) ok say = record { keyword = keyword.Space; values = (m,
 line-spelled (Beat s n m) ok say = record { keyword = keyword.Beat; values = (s, (n, (m, tt))); fit = (say.0, (say.1, (say.2, tt))); means = refl; spelling = refl }
 line-spelled Threads ok say = record { keyword = keyword.Threads; values = tt; fit = tt; means = refl; spelling = refl }
 line-spelled Join ok say = record { keyword = keyword.Join; values = tt; fit = tt; means = refl; spelling = refl }
+line-spelled (Version n) ok say = record { keyword = keyword.Version; values = (n, tt); fit = (say, tt); means = refl; spelling = refl }
+line-spelled (Carry a b) ok say = record { keyword = keyword.Carry; values = (a, (b, tt)); fit = (say.0, (say.1, tt)); means = refl; spelling = refl }
+line-spelled (Wire a b) ok say = record { keyword = keyword.Wire; values = (a, (b, tt)); fit = (say.0, (say.1, tt)); means = refl; spelling = refl }

@@ -51,6 +51,7 @@ spelling-means keyword.Sw v = refl
 spelling-means keyword.Long v = refl
 spelling-means keyword.Card v = refl
 spelling-means keyword.Fail v = refl
+spelling-means keyword.Unplug v = refl
 spelling-means keyword.Give v = refl
 spelling-means keyword.Feed v = refl
 spelling-means keyword.Save v = refl
@@ -58,6 +59,9 @@ spelling-means keyword.Space v = refl
 spelling-means keyword.Beat v = refl
 spelling-means keyword.Threads v = refl
 spelling-means keyword.Join v = refl
+spelling-means keyword.Version v = refl
+spelling-means keyword.Carry v = refl
+spelling-means keyword.Wire v = refl
 
 pub is-spelling : (bytes : List ℕ) (line : Line) → IsLine bytes line → bytes ≡ spelling line
 is-spelling bytes line is = is.spelling ∙ sym (spelling-means is.keyword is.values) ∙ ap spelling (sym is.means)

@@ -8,7 +8,7 @@ use Rattle.pcm_base.specs.declared.call.Mode.TheVariants.{Block, NonBlock}
 use Rattle.pcm_base.specs.declared.state.Dir.{Dir}
 use Rattle.pcm_base.specs.declared.state.Dir.TheVariants.{Playback, Capture}
 use Rattle.pcm_base.specs.declared.config.Model.{Model}
-use Rattle.pcm_base.specs.declared.config.Model.TheVariants.{Basic, Duplex, Studio, NoPause, NoResume}
+use Rattle.pcm_base.specs.declared.config.Model.TheVariants.{Basic, Duplex, Studio, NoPause, NoResume, Indirect}
 use Rattle.pcm_base.specs.declared.format.Access.{Access}
 use Rattle.pcm_base.specs.declared.format.Access.TheVariants.{MmapInterleaved, MmapNoninterleaved, RwInterleaved, RwNoninterleaved}
 use Rattle.pcm_base.specs.declared.format.Format.{Format}
@@ -48,6 +48,7 @@ model-again Duplex = (refl, refl)
 model-again Studio = (refl, refl)
 model-again NoPause = (refl, refl)
 model-again NoResume = (refl, refl)
+model-again Indirect = (refl, refl)
 
 pub access-again : (a : Access) → (entry_for (access_text a) accesses ≡ Some a) × (no_space (access_text a) ≡ true)
 access-again MmapInterleaved = (refl, refl)

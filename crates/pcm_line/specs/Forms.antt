@@ -4,13 +4,13 @@ use Rattle.std.specs.declared.option.Option.TheVariants.{Some, None}
 use Rattle.pcm_base.specs.declared.ids.ClientId.{ClientId}
 use Rattle.pcm_base.specs.declared.ids.SubId.{SubId}
 use Rattle.pcm_base.specs.declared.call.Call.{Call}
-use Rattle.pcm_base.specs.declared.call.Call.TheVariants.{OpenSub, CloseSub, HwParams, HwFree, SwParams, Prepare, Start, DropNow, Drain, PausePush, PauseRelease, Suspend, Resume, Xrun, Write, Read, Rewind, Forward, Hwsync, Delay, SyncPtr, Status, PageNow, Poll, Map, Unmap, Store, Load, Link, Unlink, Go, MoveBy, Irq, FailAt, Give}
+use Rattle.pcm_base.specs.declared.call.Call.TheVariants.{OpenSub, CloseSub, HwParams, HwFree, SwParams, Prepare, Start, DropNow, Drain, PausePush, PauseRelease, Suspend, Resume, Xrun, Write, Read, Rewind, Forward, Hwsync, Delay, SyncPtr, Status, PageNow, Poll, Map, Unmap, Store, Load, Link, Unlink, Go, MoveBy, Irq, FailAt, Give, Unplug}
 use Rattle.pcm_base.specs.declared.call.Layout.{Layout}
 use Rattle.pcm_base.specs.declared.call.Layout.TheVariants.{Interleaved, Planar}
 use Rattle.pcm_line.specs.declared.keyword.Keyword.{Keyword}
 use Rattle.pcm_line.specs.declared.keyword.Keyword.TheVariants as keyword
 use Rattle.pcm_line.specs.declared.line.Line.{Line}
-use Rattle.pcm_line.specs.declared.line.Line.TheVariants.{LongMax, Card, Event, Feed, Save, Space, Beat, Threads, Join}
+use Rattle.pcm_line.specs.declared.line.Line.TheVariants.{LongMax, Card, Event, Feed, Save, Space, Beat, Threads, Join, Version, Carry, Wire}
 use Rattle.pcm_line.specs.Kinds.{Kind, OfNumber, OfClient, OfSub, OfMode, OfDir, OfModel, OfAccess, OfFormat, OfHex, OfName, Value}
 
 -- one value of each of these kinds
@@ -94,6 +94,9 @@ move_form = record { kinds = OfSub ∷ OfNumber ∷ []; means = λ v. of_card v.
 abbrev pub irq_form : Form
 irq_form = record { kinds = OfSub ∷ []; means = λ v. of_card v.0 Irq [] }
 
+abbrev pub unplug_form : Form
+unplug_form = record { kinds = OfSub ∷ []; means = λ v. of_card v.0 Unplug [] }
+
 abbrev pub fail_form : Form
 fail_form = record { kinds = OfSub ∷ OfNumber ∷ []; means = λ v. of_card v.0 (FailAt v.1.0) [] }
 
@@ -137,6 +140,17 @@ threads_form = record { kinds = []; means = λ v. Threads }
 abbrev pub join_form : Form
 join_form = record { kinds = []; means = λ v. Join }
 
+-- the version of the script's language
+abbrev pub version_form : Form
+version_form = record { kinds = OfNumber ∷ []; means = λ v. Version v.0 }
+
+-- from a playback card to a capture card
+abbrev pub carry_form : Form
+carry_form = record { kinds = OfSub ∷ OfSub ∷ []; means = λ v. Carry v.0 v.1.0 }
+
+abbrev pub wire_form : Form
+wire_form = record { kinds = OfSub ∷ OfSub ∷ []; means = λ v. Wire v.0 v.1.0 }
+
 abbrev pub form_of : Keyword → Form
 form_of keyword.Writei = write_form Interleaved
 form_of keyword.Move = move_form
@@ -176,6 +190,7 @@ form_of keyword.Sw = sw_form
 form_of keyword.Long = long_form
 form_of keyword.Card = card_form
 form_of keyword.Fail = fail_form
+form_of keyword.Unplug = unplug_form
 form_of keyword.Give = give_form
 form_of keyword.Feed = feed_form
 form_of keyword.Save = save_form
@@ -183,3 +198,6 @@ form_of keyword.Space = space_form
 form_of keyword.Beat = beat_form
 form_of keyword.Threads = threads_form
 form_of keyword.Join = join_form
+form_of keyword.Version = version_form
+form_of keyword.Carry = carry_form
+form_of keyword.Wire = wire_form

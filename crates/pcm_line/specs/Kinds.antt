@@ -10,7 +10,7 @@ use Rattle.pcm_base.specs.declared.call.Mode.TheVariants.{Block, NonBlock}
 use Rattle.pcm_base.specs.declared.state.Dir.{Dir}
 use Rattle.pcm_base.specs.declared.state.Dir.TheVariants.{Playback, Capture}
 use Rattle.pcm_base.specs.declared.config.Model.{Model}
-use Rattle.pcm_base.specs.declared.config.Model.TheVariants.{Basic, Duplex, Studio, NoPause, NoResume}
+use Rattle.pcm_base.specs.declared.config.Model.TheVariants.{Basic, Duplex, Studio, NoPause, NoResume, Indirect}
 use Rattle.pcm_base.specs.declared.format.Access.{Access}
 use Rattle.pcm_base.specs.declared.format.Access.TheVariants.{MmapInterleaved, MmapNoninterleaved, RwInterleaved, RwNoninterleaved}
 use Rattle.pcm_base.specs.declared.format.Format.{Format}
@@ -54,6 +54,7 @@ model_text Duplex = codes "duplex"
 model_text Studio = codes "studio"
 model_text NoPause = codes "nopause"
 model_text NoResume = codes "noresume"
+model_text Indirect = codes "indirect"
 
 abbrev pub access_text : Access → List ℕ
 access_text MmapInterleaved = codes "MMAP_INTERLEAVED"

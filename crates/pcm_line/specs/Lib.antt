@@ -8,3 +8,4 @@ pub mod Tables
 pub mod Reading
 pub mod Hex
 pub mod Spelling
+pub mod Skipped

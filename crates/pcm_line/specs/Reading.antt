@@ -15,7 +15,7 @@ use Rattle.pcm_line.specs.declared.keyword.Keyword.TheVariants as keyword
 use Rattle.pcm_line.specs.Kinds.{Kind, OfNumber, OfClient, OfSub, OfMode, OfDir, OfModel, OfAccess, OfFormat, OfHex, OfName, Value}
 use Rattle.pcm_line.specs.Pieces.{Place, pieces_of, place_at}
 use Rattle.pcm_line.specs.Tables.{entry_for, modes, dirs, models, accesses, formats, keyword_for}
-use Rattle.pcm_line.specs.Forms.{Values, Form, plain_form, counted_form, write_form, read_form, store_form, load_form, drain_form, link_form, go_form, hw_form, sw_form, move_form, irq_form, fail_form, give_form, long_form, card_form, feed_form, save_form, space_form, beat_form, threads_form, join_form}
+use Rattle.pcm_line.specs.Forms.{Values, Form, plain_form, counted_form, write_form, read_form, store_form, load_form, drain_form, link_form, go_form, hw_form, sw_form, move_form, irq_form, unplug_form, fail_form, give_form, long_form, card_form, feed_form, save_form, space_form, beat_form, threads_form, join_form, version_form, carry_form, wire_form}
 use Rattle.pcm_line.specs.Grammar.{misfit}
 
 infixl 10 ◌>>=◌
@@ -154,6 +154,7 @@ read_after keyword.Sw place = read_by sw_form place
 read_after keyword.Long place = read_by long_form place
 read_after keyword.Card place = read_by card_form place
 read_after keyword.Fail place = read_by fail_form place
+read_after keyword.Unplug place = read_by unplug_form place
 read_after keyword.Give place = read_by give_form place
 read_after keyword.Feed place = read_by feed_form place
 read_after keyword.Save place = read_by save_form place
@@ -161,6 +162,9 @@ read_after keyword.Space place = read_by space_form place
 read_after keyword.Beat place = read_by beat_form place
 read_after keyword.Threads place = read_by threads_form place
 read_after keyword.Join place = read_by join_form place
+read_after keyword.Version place = read_by version_form place
+read_after keyword.Carry place = read_by carry_form place
+read_after keyword.Wire place = read_by wire_form place
 
 abbrev pub read_others : Option Keyword → Place → Result Line LineError
 read_others None place = Err (faults.Word 0)

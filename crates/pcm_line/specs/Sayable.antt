@@ -10,9 +10,9 @@ use Rattle.pcm_base.specs.declared.config.Space.{Space as ConfigSpace}
 use Rattle.pcm_base.specs.declared.config.Span.{Span}
 use Rattle.pcm_base.specs.declared.call.Event.{Event as CoreEvent}
 use Rattle.pcm_base.specs.declared.call.Call.{Call}
-use Rattle.pcm_base.specs.declared.call.Call.TheVariants.{HwParams, SwParams, Write, Read, Rewind, Forward, SyncPtr, Store, Load, Link, Go, MoveBy, Irq, FailAt, Give}
+use Rattle.pcm_base.specs.declared.call.Call.TheVariants.{HwParams, SwParams, Write, Read, Rewind, Forward, SyncPtr, Store, Load, Link, Go, MoveBy, Irq, FailAt, Give, Unplug}
 use Rattle.pcm_line.specs.declared.line.Line.{Line}
-use Rattle.pcm_line.specs.declared.line.Line.TheVariants.{LongMax, Card, Event, Feed, Save, Space, Beat, Threads, Join}
+use Rattle.pcm_line.specs.declared.line.Line.TheVariants.{LongMax, Card, Event, Feed, Save, Space, Beat, Threads, Join, Version, Carry, Wire}
 
 abbrev pub IsSub : SubId → Type 0
 IsSub s = s.0 < 16
@@ -41,6 +41,7 @@ is_of_card (MoveBy frames) = true
 is_of_card Irq = true
 is_of_card (FailAt k) = true
 is_of_card Give = true
+is_of_card Unplug = true
 is_of_card _ = false
 
 -- a client exactly where the call has one
@@ -91,6 +92,9 @@ Sayable (Space model space) = SpaceFits space
 Sayable (Beat s frames count) = IsSub s × IsNumber frames × IsNumber count
 Sayable Threads = Unit {0}
 Sayable Join = Unit {0}
+Sayable (Version n) = IsNumber n
+Sayable (Carry from to) = IsSub from × IsSub to
+Sayable (Wire from to) = IsSub from × IsSub to
 
 -- What the types Bytes and Name make true of every line: its bytes are bytes, and its name is a name.
 abbrev pub IsWellTyped : Line → Type 0

@@ -11,9 +11,9 @@ use Rattle.pcm_base.specs.declared.call.Layout.{Layout}
 use Rattle.pcm_base.specs.declared.call.Layout.TheVariants.{Interleaved, Planar}
 use Rattle.pcm_base.specs.declared.call.Call.{Call}
 use Rattle.pcm_base.specs.declared.call.Event.{Event as CoreEvent}
-use Rattle.pcm_base.specs.declared.call.Call.TheVariants.{OpenSub, CloseSub, HwParams, HwFree, SwParams, Prepare, Start, DropNow, Drain, PausePush, PauseRelease, Suspend, Resume, Xrun, Write, Read, Rewind, Forward, Hwsync, Delay, SyncPtr, Status, PageNow, Poll, Map, Unmap, Store, Load, Link, Unlink, Go, MoveBy, Irq, FailAt, Give}
+use Rattle.pcm_base.specs.declared.call.Call.TheVariants.{OpenSub, CloseSub, HwParams, HwFree, SwParams, Prepare, Start, DropNow, Drain, PausePush, PauseRelease, Suspend, Resume, Xrun, Write, Read, Rewind, Forward, Hwsync, Delay, SyncPtr, Status, PageNow, Poll, Map, Unmap, Store, Load, Link, Unlink, Go, MoveBy, Irq, FailAt, Give, Unplug}
 use Rattle.pcm_line.specs.declared.line.Line.{Line}
-use Rattle.pcm_line.specs.declared.line.Line.TheVariants.{LongMax, Card, Event, Feed, Save, Space, Beat, Threads, Join}
+use Rattle.pcm_line.specs.declared.line.Line.TheVariants.{LongMax, Card, Event, Feed, Save, Space, Beat, Threads, Join, Version, Carry, Wire}
 use Rattle.pcm_line.specs.Kinds.{OfNumber, OfClient, OfSub, OfMode, OfDir, OfModel, OfAccess, OfFormat, OfHex, OfName, spelled}
 use Rattle.pcm_line.specs.Pieces.{joined}
 
@@ -61,6 +61,7 @@ call_word (MoveBy n) = codes "move"
 call_word Irq = codes "irq"
 call_word (FailAt n) = codes "fail"
 call_word Give = codes "give"
+call_word Unplug = codes "unplug"
 
 abbrev pub config_texts : Config → List (List ℕ)
 config_texts p = spelled OfAccess p.access ∷ spelled OfFormat p.format ∷ spelled OfNumber p.channels ∷ spelled OfNumber p.rate ∷ spelled OfNumber p.period ∷ spelled OfNumber p.periods ∷ []
@@ -111,6 +112,9 @@ line_word (Space m p) = codes "space"
 line_word (Beat s n m) = codes "beat"
 line_word Threads = codes "threads"
 line_word Join = codes "join"
+line_word (Version n) = codes "version"
+line_word (Carry from to) = codes "carry"
+line_word (Wire from to) = codes "wire"
 
 abbrev pub line_texts : Line → List (List ℕ)
 line_texts (LongMax n) = spelled OfNumber n ∷ []
@@ -122,6 +126,9 @@ line_texts (Space m p) = spelled OfModel m ∷ space_texts p
 line_texts (Beat s n m) = spelled OfSub s ∷ spelled OfNumber n ∷ spelled OfNumber m ∷ []
 line_texts Threads = []
 line_texts Join = []
+line_texts (Version n) = spelled OfNumber n ∷ []
+line_texts (Carry from to) = spelled OfSub from ∷ spelled OfSub to ∷ []
+line_texts (Wire from to) = spelled OfSub from ∷ spelled OfSub to ∷ []
 
 abbrev pub spelling : Line → List ℕ
 spelling line = joined (line_word line) (line_texts line)

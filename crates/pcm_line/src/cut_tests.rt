@@ -26,6 +26,7 @@ fn a_cut_line_has_its_fault_or_is_a_line(rt: HostRuntime) {
     let table = [
         ("long 1023", "wwwwsn...."),
         ("card s0 duplex p", "wwwwswwswwwwwwsw."),
+        ("card s1 indirect c", "wwwwswwswwwwwwwwsw."),
         ("open c0 s10", "wwwwswwsww.."),
         ("close c15 s15", "wwwwwswwssww.."),
         (
@@ -65,6 +66,7 @@ fn a_cut_line_has_its_fault_or_is_a_line(rt: HostRuntime) {
         ("move s0 40", "wwwwswwsn.."),
         ("irq s0", "wwwsww."),
         ("fail s0 1", "wwwwswwsn."),
+        ("unplug s0", "wwwwwwsww."),
         ("give s0 7f", "wwwwswwsww."),
         ("feed s0 a.wav", "wwwwswwsw....."),
         ("save s0 a-b", "wwwwswwsw..."),
@@ -75,6 +77,9 @@ fn a_cut_line_has_its_fault_or_is_a_line(rt: HostRuntime) {
         ("beat s0 4 10", "wwwwswwsnsn.."),
         ("threads", "wwwwwww."),
         ("join", "wwww."),
+        ("version 2", "wwwwwwwsn."),
+        ("carry s0 s15", "wwwwwswwsww.."),
+        ("wire s10 s1", "wwwwswwssww."),
     ];
     for (line, letters) in table {
         assert_eq!(rt; letters.len(), line.len().saturating_add(1), "{line}");

@@ -1,34 +1,39 @@
 // Bytes as pairs of hex digits.
-ghost use Rattle.std.specs.Prelude.{◌≡◌, ◌<◌, IfOk, OnOk, ◌++◌, ◌∷◌};
+ghost use Rattle.std.specs.Prelude.{◌≡◌, ◌<◌, ◌*◌, IfOk, OnOk, ◌++◌, ◌∷◌, [], length};
+ghost use Rattle.std.specs.Bool.{OnTrue};
 ghost use Rattle.std.specs.Option.{option_map};
 ghost use Rattle.pcm_line.specs.Kinds.{OfHex, spelled, hex_digit};
 ghost use Rattle.pcm_line.specs.Hex.{digit_or_sixteen, pairs_in_front, hex_in_front, is_piece_end};
 
 use std::alloc::{AllocError, Global};
 
-/// The value of each byte as a hex digit, 16 for those that are none: a table has no branch to guess wrong.
-static VALUES: [u8; 256] = [
-    16, 16, 16, 16, 16, 16, 16, 16, 16, 16, 16, 16, 16, 16, 16, 16, 16, 16, 16, 16, 16, 16, 16, 16,
-    16, 16, 16, 16, 16, 16, 16, 16, 16, 16, 16, 16, 16, 16, 16, 16, 16, 16, 16, 16, 16, 16, 16, 16,
-    0, 1, 2, 3, 4, 5, 6, 7, 8, 9, 16, 16, 16, 16, 16, 16, 16, 16, 16, 16, 16, 16, 16, 16, 16, 16,
-    16, 16, 16, 16, 16, 16, 16, 16, 16, 16, 16, 16, 16, 16, 16, 16, 16, 16, 16, 16, 16, 16, 16, 10,
-    11, 12, 13, 14, 15, 16, 16, 16, 16, 16, 16, 16, 16, 16, 16, 16, 16, 16, 16, 16, 16, 16, 16, 16,
-    16, 16, 16, 16, 16, 16, 16, 16, 16, 16, 16, 16, 16, 16, 16, 16, 16, 16, 16, 16, 16, 16, 16, 16,
-    16, 16, 16, 16, 16, 16, 16, 16, 16, 16, 16, 16, 16, 16, 16, 16, 16, 16, 16, 16, 16, 16, 16, 16,
-    16, 16, 16, 16, 16, 16, 16, 16, 16, 16, 16, 16, 16, 16, 16, 16, 16, 16, 16, 16, 16, 16, 16, 16,
-    16, 16, 16, 16, 16, 16, 16, 16, 16, 16, 16, 16, 16, 16, 16, 16, 16, 16, 16, 16, 16, 16, 16, 16,
-    16, 16, 16, 16, 16, 16, 16, 16, 16, 16, 16, 16, 16, 16, 16, 16, 16, 16, 16, 16, 16, 16, 16, 16,
-    16, 16, 16, 16, 16, 16, 16, 16, 16, 16, 16, 16, 16, 16,
-];
-
+/// The value of a byte as a hex digit, 16 for one that is none. It has no branch, so that a loop over many digits becomes
+/// vector code.
+#[inline(always)]
 fn value(b: u8) -> u8
     ensures { result ≡ digit_or_sixteen b }
 {
-    VALUES[b as usize]
+    let decimal = b.wrapping_sub(b'0');
+    let letter = b.wrapping_sub(b'a').min(6) + 10;
+    if decimal < 10 { decimal } else { letter }
 }
 
-/// The bytes of the pairs at the front, and what follows them.
-fn pairs(alloc: Global, text: &[u8]) -> Result<(Vec<u8>, &[u8]), AllocError>
+/// Puts the bytes of the pairs of digits into the area, and tells whether all are digits; else what it put means nothing.
+fn decode(text: &[u8], area: &mut [u8]) -> bool
+    requires { length text.now ≡ 2 * length area.old }
+    ensures { OnTrue result ((area.new, []) ≡ pairs_in_front text.now) }
+{
+    let mut most: u8 = 0;
+    'pairs: for i in 0..area.len() {
+        let (high, low) = (value(text[2 * i]), value(text[2 * i + 1]));
+        area[i] = high.wrapping_mul(16).wrapping_add(low);
+        most = most.max(high.max(low));
+    }
+    most < 16
+}
+
+/// The bytes of the pairs at the front, one after another, and what follows them.
+fn pairs_in_turn(alloc: Global, text: &[u8]) -> Result<(Vec<u8>, &[u8]), AllocError>
     ensures { IfOk result (λ x. (x.0.items, x.1.now) ≡ pairs_in_front text.now) }
 {
     let mut bytes = Vec::with_capacity(alloc, text.len() / 2)?;
@@ -42,6 +47,23 @@ fn pairs(alloc: Global, text: &[u8]) -> Result<(Vec<u8>, &[u8]), AllocError>
         rest = after;
     }
     Ok((bytes, rest))
+}
+
+/// From so many digits on they are read all at once.
+const MANY: usize = 32;
+
+/// The bytes of the pairs at the front, and what follows them: as a rule nothing, since hex is the last piece of its form.
+fn pairs(alloc: Global, text: &[u8]) -> Result<(Vec<u8>, &[u8]), AllocError>
+    ensures { IfOk result (λ x. (x.0.items, x.1.now) ≡ pairs_in_front text.now) }
+{
+    if text.len() >= MANY && text.len() % 2 == 0 {
+        let mut bytes = Vec::new(alloc);
+        bytes.resize(text.len() / 2, 0)?;
+        if decode(text, &mut bytes) {
+            return Ok((bytes, &text[text.len()..]));
+        }
+    }
+    pairs_in_turn(alloc, text)
 }
 
 fn ends(rest: &[u8]) -> bool

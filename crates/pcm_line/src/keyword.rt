@@ -1,6 +1,6 @@
 // The first pieces of lines.
 ghost use Rattle.std.specs.Prelude.{◌≡◌};
-ghost use Rattle.pcm_line.specs.Tables.{entry_for, keyword_for, frequent_words, transfer_words, query_words, start_words, pause_words, link_words, setup_words, card_words, plan_words};
+ghost use Rattle.pcm_line.specs.Tables.{entry_for, keyword_for, four_letters, words_of_four, other_words_of_four, words_of_five, words_of_six, words_of_seven, short_words};
 
 /// The first piece of a line, which decides its form. Each is printed as its name in small letters. This project's own.
 #[derive(Clone, Copy, Debug, PartialEq, Eq)]
@@ -81,6 +81,8 @@ pub enum Keyword {
     Card,
     /// Plans a trigger of a card to fail.
     Fail,
+    /// Takes a card away.
+    Unplug,
     /// Gives a card the frames that it will capture.
     Give,
     /// Gives a card the frames of a file.
@@ -95,163 +97,61 @@ pub enum Keyword {
     Threads,
     /// In a live plan: the workers have ended.
     Join,
+    /// Tells the version of the script's language.
+    Version,
+    /// Gives a capture card what a playback card took.
+    Carry,
+    /// In a live plan: a cable from a playback card to a capture card.
+    Wire,
 }
 
-fn frequent_word(piece: &[u8]) -> Option<Keyword>
-    ensures { result ≡ entry_for piece.now frequent_words }
+fn word_of_four(piece: &[u8]) -> Option<Keyword>
+    ensures { result ≡ entry_for piece.now words_of_four }
 {
-    if piece == b"writei".as_slice() {
-        Some(Keyword::Writei)
-    } else if piece == b"move".as_slice() {
+    if piece == b"move".as_slice() {
         Some(Keyword::Move)
-    } else if piece == b"irq".as_slice() {
-        Some(Keyword::Irq)
-    } else if piece == b"status".as_slice() {
-        Some(Keyword::Status)
-    } else if piece == b"readi".as_slice() {
-        Some(Keyword::Readi)
-    } else if piece == b"writen".as_slice() {
-        Some(Keyword::Writen)
-    } else {
-        None
-    }
-}
-
-fn transfer_word(piece: &[u8]) -> Option<Keyword>
-    ensures { result ≡ entry_for piece.now transfer_words }
-{
-    if piece == b"readn".as_slice() {
-        Some(Keyword::Readn)
-    } else if piece == b"store".as_slice() {
-        Some(Keyword::Store)
-    } else if piece == b"load".as_slice() {
-        Some(Keyword::Load)
-    } else if piece == b"rewind".as_slice() {
-        Some(Keyword::Rewind)
-    } else if piece == b"forward".as_slice() {
-        Some(Keyword::Forward)
-    } else {
-        None
-    }
-}
-
-fn query_word(piece: &[u8]) -> Option<Keyword>
-    ensures { result ≡ entry_for piece.now query_words }
-{
-    if piece == b"sync".as_slice() {
-        Some(Keyword::Sync)
-    } else if piece == b"hwsync".as_slice() {
-        Some(Keyword::Hwsync)
-    } else if piece == b"delay".as_slice() {
-        Some(Keyword::Delay)
     } else if piece == b"page".as_slice() {
         Some(Keyword::Page)
     } else if piece == b"poll".as_slice() {
         Some(Keyword::Poll)
-    } else {
-        None
-    }
-}
-
-fn start_word(piece: &[u8]) -> Option<Keyword>
-    ensures { result ≡ entry_for piece.now start_words }
-{
-    if piece == b"prepare".as_slice() {
-        Some(Keyword::Prepare)
-    } else if piece == b"start".as_slice() {
-        Some(Keyword::Start)
+    } else if piece == b"sync".as_slice() {
+        Some(Keyword::Sync)
+    } else if piece == b"load".as_slice() {
+        Some(Keyword::Load)
     } else if piece == b"drop".as_slice() {
         Some(Keyword::Drop)
-    } else if piece == b"drain".as_slice() {
-        Some(Keyword::Drain)
     } else if piece == b"xrun".as_slice() {
         Some(Keyword::Xrun)
-    } else {
-        None
-    }
-}
-
-fn pause_word(piece: &[u8]) -> Option<Keyword>
-    ensures { result ≡ entry_for piece.now pause_words }
-{
-    if piece == b"pause".as_slice() {
-        Some(Keyword::Pause)
-    } else if piece == b"release".as_slice() {
-        Some(Keyword::Release)
-    } else if piece == b"suspend".as_slice() {
-        Some(Keyword::Suspend)
-    } else if piece == b"resume".as_slice() {
-        Some(Keyword::Resume)
-    } else if piece == b"go".as_slice() {
-        Some(Keyword::Go)
-    } else {
-        None
-    }
-}
-
-fn link_word(piece: &[u8]) -> Option<Keyword>
-    ensures { result ≡ entry_for piece.now link_words }
-{
-    if piece == b"link".as_slice() {
+    } else if piece == b"give".as_slice() {
+        Some(Keyword::Give)
+    } else if piece == b"link".as_slice() {
         Some(Keyword::Link)
-    } else if piece == b"unlink".as_slice() {
-        Some(Keyword::Unlink)
-    } else if piece == b"mmap".as_slice() {
+    } else {
+        None
+    }
+}
+
+fn other_word_of_four(piece: &[u8]) -> Option<Keyword>
+    ensures { result ≡ entry_for piece.now other_words_of_four }
+{
+    if piece == b"mmap".as_slice() {
         Some(Keyword::Mmap)
-    } else if piece == b"munmap".as_slice() {
-        Some(Keyword::Munmap)
-    } else {
-        None
-    }
-}
-
-fn setup_word(piece: &[u8]) -> Option<Keyword>
-    ensures { result ≡ entry_for piece.now setup_words }
-{
-    if piece == b"open".as_slice() {
+    } else if piece == b"open".as_slice() {
         Some(Keyword::Open)
-    } else if piece == b"close".as_slice() {
-        Some(Keyword::Close)
-    } else if piece == b"hw".as_slice() {
-        Some(Keyword::Hw)
-    } else if piece == b"hwfree".as_slice() {
-        Some(Keyword::Hwfree)
-    } else if piece == b"sw".as_slice() {
-        Some(Keyword::Sw)
-    } else {
-        None
-    }
-}
-
-fn card_word(piece: &[u8]) -> Option<Keyword>
-    ensures { result ≡ entry_for piece.now card_words }
-{
-    if piece == b"long".as_slice() {
+    } else if piece == b"long".as_slice() {
         Some(Keyword::Long)
     } else if piece == b"card".as_slice() {
         Some(Keyword::Card)
     } else if piece == b"fail".as_slice() {
         Some(Keyword::Fail)
-    } else if piece == b"give".as_slice() {
-        Some(Keyword::Give)
     } else if piece == b"feed".as_slice() {
         Some(Keyword::Feed)
-    } else {
-        None
-    }
-}
-
-fn plan_word(piece: &[u8]) -> Option<Keyword>
-    ensures { result ≡ entry_for piece.now plan_words }
-{
-    if piece == b"save".as_slice() {
+    } else if piece == b"save".as_slice() {
         Some(Keyword::Save)
-    } else if piece == b"space".as_slice() {
-        Some(Keyword::Space)
     } else if piece == b"beat".as_slice() {
         Some(Keyword::Beat)
-    } else if piece == b"threads".as_slice() {
-        Some(Keyword::Threads)
+    } else if piece == b"wire".as_slice() {
+        Some(Keyword::Wire)
     } else if piece == b"join".as_slice() {
         Some(Keyword::Join)
     } else {
@@ -259,33 +159,120 @@ fn plan_word(piece: &[u8]) -> Option<Keyword>
     }
 }
 
-/// The keyword that these bytes are, the frequent ones tried first.
+fn word_of_six(piece: &[u8]) -> Option<Keyword>
+    ensures { result ≡ entry_for piece.now words_of_six }
+{
+    if piece == b"writei".as_slice() {
+        Some(Keyword::Writei)
+    } else if piece == b"status".as_slice() {
+        Some(Keyword::Status)
+    } else if piece == b"writen".as_slice() {
+        Some(Keyword::Writen)
+    } else if piece == b"hwsync".as_slice() {
+        Some(Keyword::Hwsync)
+    } else if piece == b"rewind".as_slice() {
+        Some(Keyword::Rewind)
+    } else if piece == b"resume".as_slice() {
+        Some(Keyword::Resume)
+    } else if piece == b"unlink".as_slice() {
+        Some(Keyword::Unlink)
+    } else if piece == b"munmap".as_slice() {
+        Some(Keyword::Munmap)
+    } else if piece == b"hwfree".as_slice() {
+        Some(Keyword::Hwfree)
+    } else if piece == b"unplug".as_slice() {
+        Some(Keyword::Unplug)
+    } else {
+        None
+    }
+}
+
+fn short_word(piece: &[u8]) -> Option<Keyword>
+    ensures { result ≡ entry_for piece.now short_words }
+{
+    if piece == b"irq".as_slice() {
+        Some(Keyword::Irq)
+    } else if piece == b"go".as_slice() {
+        Some(Keyword::Go)
+    } else if piece == b"hw".as_slice() {
+        Some(Keyword::Hw)
+    } else if piece == b"sw".as_slice() {
+        Some(Keyword::Sw)
+    } else {
+        None
+    }
+}
+
+fn word_of_five(piece: &[u8]) -> Option<Keyword>
+    ensures { result ≡ entry_for piece.now words_of_five }
+{
+    if piece == b"readi".as_slice() {
+        Some(Keyword::Readi)
+    } else if piece == b"space".as_slice() {
+        Some(Keyword::Space)
+    } else if piece == b"readn".as_slice() {
+        Some(Keyword::Readn)
+    } else if piece == b"store".as_slice() {
+        Some(Keyword::Store)
+    } else if piece == b"delay".as_slice() {
+        Some(Keyword::Delay)
+    } else if piece == b"start".as_slice() {
+        Some(Keyword::Start)
+    } else if piece == b"drain".as_slice() {
+        Some(Keyword::Drain)
+    } else if piece == b"pause".as_slice() {
+        Some(Keyword::Pause)
+    } else if piece == b"close".as_slice() {
+        Some(Keyword::Close)
+    } else if piece == b"carry".as_slice() {
+        Some(Keyword::Carry)
+    } else {
+        None
+    }
+}
+
+fn word_of_seven(piece: &[u8]) -> Option<Keyword>
+    ensures { result ≡ entry_for piece.now words_of_seven }
+{
+    if piece == b"prepare".as_slice() {
+        Some(Keyword::Prepare)
+    } else if piece == b"forward".as_slice() {
+        Some(Keyword::Forward)
+    } else if piece == b"release".as_slice() {
+        Some(Keyword::Release)
+    } else if piece == b"suspend".as_slice() {
+        Some(Keyword::Suspend)
+    } else if piece == b"threads".as_slice() {
+        Some(Keyword::Threads)
+    } else if piece == b"version".as_slice() {
+        Some(Keyword::Version)
+    } else {
+        None
+    }
+}
+
+fn any_word_of_four(piece: &[u8]) -> Option<Keyword>
+    ensures { result ≡ four_letters piece.now }
+{
+    if let Some(keyword) = word_of_four(piece) {
+        return Some(keyword);
+    }
+    other_word_of_four(piece)
+}
+
+/// The keyword that these bytes are: those of its length alone are tried, the frequent ones first.
 pub(crate) fn keyword_of(piece: &[u8]) -> Option<Keyword>
     ensures { result ≡ keyword_for piece.now }
 {
-    if let Some(keyword) = frequent_word(piece) {
-        return Some(keyword);
+    if piece.len() == 4 {
+        any_word_of_four(piece)
+    } else if piece.len() == 6 {
+        word_of_six(piece)
+    } else if piece.len() < 4 {
+        short_word(piece)
+    } else if piece.len() == 5 {
+        word_of_five(piece)
+    } else {
+        word_of_seven(piece)
     }
-    if let Some(keyword) = transfer_word(piece) {
-        return Some(keyword);
-    }
-    if let Some(keyword) = query_word(piece) {
-        return Some(keyword);
-    }
-    if let Some(keyword) = start_word(piece) {
-        return Some(keyword);
-    }
-    if let Some(keyword) = pause_word(piece) {
-        return Some(keyword);
-    }
-    if let Some(keyword) = link_word(piece) {
-        return Some(keyword);
-    }
-    if let Some(keyword) = setup_word(piece) {
-        return Some(keyword);
-    }
-    if let Some(keyword) = card_word(piece) {
-        return Some(keyword);
-    }
-    plan_word(piece)
 }

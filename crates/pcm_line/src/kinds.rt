@@ -43,6 +43,7 @@ pub(crate) fn after_letter(letter: u8, piece: &[u8]) -> Option<u8>
     ensures { result ≡ numbered letter piece.now }
 {
     match piece {
+        [first, digit] if *first == letter && digit.is_ascii_digit() => Some(*digit - b'0'),
         [first, rest @ ..] if *first == letter => match number(rest) {
             Some(n) if n < 16 => Some(n as u8),
             _ => None,
@@ -86,6 +87,8 @@ pub(crate) fn model(piece: &[u8]) -> Option<Model>
         Some(Model::NoPause)
     } else if piece == b"noresume".as_slice() {
         Some(Model::NoResume)
+    } else if piece == b"indirect".as_slice() {
+        Some(Model::Indirect)
     } else {
         None
     }

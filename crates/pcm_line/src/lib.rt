@@ -2,7 +2,8 @@
 //!
 //! A line is pieces with single spaces between them. The first piece, a keyword, decides the form: which kinds of pieces
 //! follow, and what the line means. Every value has exactly one spelling, so a line has one too. What the bytes of a line
-//! are, and which fault other bytes have, stands in `specs/Grammar`, which lines can be said in `specs/Sayable`.
+//! are, and which fault other bytes have, stands in `specs/Grammar`, which lines can be said in `specs/Sayable`, and which
+//! a script passes over in `specs/Skipped`.
 //!
 //! It stands on `pcm_base` for the values. The language is this project's own; its words are those of ALSA.
 #![tactic(auto)]
@@ -18,6 +19,7 @@ mod line;
 mod pieces;
 mod print;
 mod read;
+mod skipped;
 #[cfg(test)]
 mod tests;
 mod typed;
@@ -29,3 +31,4 @@ pub use laws::{one_answer, one_spelling, sayable_lines};
 pub use line::Line;
 pub use print::print_line;
 pub use read::read_line;
+pub use skipped::is_skipped;

@@ -22,4 +22,10 @@ pub enum Line {
     Threads,
     /// In a live plan: the workers have ended here.
     Join,
+    /// The version of the script's language.
+    Version(u64),
+    /// Gives the second, a capture card, what the first, a playback card, took.
+    Carry(SubId, SubId),
+    /// In a live plan: a cable from the first, a playback card, to the second, a capture card.
+    Wire(SubId, SubId),
 }

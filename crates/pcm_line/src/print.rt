@@ -128,7 +128,7 @@ fn push_operands(out: &mut Vec<u8>, call: Call, bytes: &[u8]) -> Result<(), Allo
         | Call::Xrun
         | Call::Go => Ok(()),
         Call::Hwsync | Call::Delay | Call::Status | Call::PageNow | Call::Poll => Ok(()),
-        Call::Map | Call::Unmap | Call::Unlink | Call::Irq => Ok(()),
+        Call::Map | Call::Unmap | Call::Unlink | Call::Irq | Call::Unplug => Ok(()),
     }
 }
 
@@ -151,7 +151,7 @@ fn push_line(out: &mut Vec<u8>, line: &Line) -> Result<(), AllocError>
     ensures typed { OnOk result (IsWellTyped line.now) }
 {
     match line {
-        Line::LongMax(number) => push_number(out, *number),
+        Line::LongMax(number) | Line::Version(number) => push_number(out, *number),
         Line::Card(sub, model, dir) => {
             push_sub(out, *sub)?;
             push_piece(out, model_text(*model))?;
@@ -172,6 +172,10 @@ fn push_line(out: &mut Vec<u8>, line: &Line) -> Result<(), AllocError>
             push_number(out, *count)
         }
         Line::Threads | Line::Join => Ok(()),
+        Line::Carry(from, to) | Line::Wire(from, to) => {
+            push_sub(out, *from)?;
+            push_sub(out, *to)
+        }
     }
 }
 
@@ -188,6 +192,9 @@ fn line_word(line: &Line) -> &'static [u8]
         Line::Beat(_, _, _) => b"beat",
         Line::Threads => b"threads",
         Line::Join => b"join",
+        Line::Version(_) => b"version",
+        Line::Carry(_, _) => b"carry",
+        Line::Wire(_, _) => b"wire",
     }
 }
 

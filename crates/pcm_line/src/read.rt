@@ -8,7 +8,7 @@ ghost use Rattle.pcm_line.specs.declared.error.LineError.TheVariants.{Memory};
 ghost use Rattle.pcm_line.specs.Grammar.{IsLine, LineFault};
 ghost use Rattle.pcm_line.specs.Pieces.{place_at};
 ghost use Rattle.pcm_line.specs.Kinds.{OfClient, OfSub, OfNumber};
-ghost use Rattle.pcm_line.specs.Forms.{plain_form, counted_form, write_form, read_form, store_form, load_form, drain_form, link_form, go_form, hw_form, sw_form, move_form, irq_form, fail_form, give_form, long_form, card_form, feed_form, save_form, space_form, beat_form, threads_form, join_form};
+ghost use Rattle.pcm_line.specs.Forms.{plain_form, counted_form, write_form, read_form, store_form, load_form, drain_form, link_form, go_form, hw_form, sw_form, move_form, irq_form, unplug_form, fail_form, give_form, long_form, card_form, feed_form, save_form, space_form, beat_form, threads_form, join_form, version_form, carry_form, wire_form};
 ghost use Rattle.pcm_line.specs.Reading.{Reads, Gives, read_after, read_values, read_bytes};
 
 use crate::error::LineError;
@@ -138,6 +138,14 @@ fn irq(alloc: Global, pieces: &mut Pieces) -> Result<Line, LineError>
     let sub = pieces.sub()?;
     pieces.end()?;
     Ok(of_card(sub, Call::Irq, no_bytes(alloc)))
+}
+
+fn unplug(alloc: Global, pieces: &mut Pieces) -> Result<Line, LineError>
+    ensures { Reads unplug_form pieces.old.at pieces.old.rest.now result }
+{
+    let sub = pieces.sub()?;
+    pieces.end()?;
+    Ok(of_card(sub, Call::Unplug, no_bytes(alloc)))
 }
 
 fn fail(alloc: Global, pieces: &mut Pieces) -> Result<Line, LineError>
@@ -329,8 +337,35 @@ fn threads(pieces: &mut Pieces) -> Result<Line, LineError>
     Ok(Line::Threads)
 }
 
-/// The line of this keyword's form.
-fn line_after(alloc: Global, keyword: Keyword, pieces: &mut Pieces) -> Result<Line, LineError>
+fn version(pieces: &mut Pieces) -> Result<Line, LineError>
+    ensures { Reads version_form pieces.old.at pieces.old.rest.now result }
+{
+    let number = pieces.number()?;
+    pieces.end()?;
+    Ok(Line::Version(number))
+}
+
+fn carry(pieces: &mut Pieces) -> Result<Line, LineError>
+    ensures { Reads carry_form pieces.old.at pieces.old.rest.now result }
+{
+    let from = pieces.sub()?;
+    let to = pieces.sub()?;
+    pieces.end()?;
+    Ok(Line::Carry(from, to))
+}
+
+fn wire(pieces: &mut Pieces) -> Result<Line, LineError>
+    ensures { Reads wire_form pieces.old.at pieces.old.rest.now result }
+{
+    let from = pieces.sub()?;
+    let to = pieces.sub()?;
+    pieces.end()?;
+    Ok(Line::Wire(from, to))
+}
+
+/// The line of this keyword's form, whichever it is.
+#[inline(never)]
+fn any_line_after(alloc: Global, keyword: Keyword, pieces: &mut Pieces) -> Result<Line, LineError>
     ensures { Gives (λ line. line) result (read_after keyword (place_at pieces.old.at pieces.old.rest.now)) }
 {
     match keyword {
@@ -372,6 +407,7 @@ fn line_after(alloc: Global, keyword: Keyword, pieces: &mut Pieces) -> Result<Li
         Keyword::Long => long(pieces),
         Keyword::Card => card(pieces),
         Keyword::Fail => fail(alloc, pieces),
+        Keyword::Unplug => unplug(alloc, pieces),
         Keyword::Give => give(alloc, pieces),
         Keyword::Feed => feed(pieces),
         Keyword::Save => save(pieces),
@@ -379,21 +415,25 @@ fn line_after(alloc: Global, keyword: Keyword, pieces: &mut Pieces) -> Result<Li
         Keyword::Beat => beat(pieces),
         Keyword::Threads => threads(pieces),
         Keyword::Join => join(pieces),
+        Keyword::Version => version(pieces),
+        Keyword::Carry => carry(pieces),
+        Keyword::Wire => wire(pieces),
     }
 }
 
-fn read_whole(alloc: Global, bytes: &[u8]) -> Result<Line, LineError>
-    ensures { Gives (λ line. line) result (read_bytes bytes.now) }
+/// The line of this keyword's form. The frequent ones stand apart: the compiled code clears room for every call that a
+/// function names, whichever line comes.
+fn line_after(alloc: Global, keyword: Keyword, pieces: &mut Pieces) -> Result<Line, LineError>
+    ensures { Gives (λ line. line) result (read_after keyword (place_at pieces.old.at pieces.old.rest.now)) }
 {
-    let (first, rest) = bytes.split_at(piece_len(bytes));
-    let Some(keyword) = keyword_of(first) else {
-        return Err(LineError::Word(0));
-    };
-    let mut pieces = Pieces {
-        at: first.len() + 1,
-        rest,
-    };
-    line_after(alloc, keyword, &mut pieces)
+    match keyword {
+        Keyword::Writei => write(alloc, pieces, Layout::Interleaved),
+        Keyword::Move => move_by(alloc, pieces),
+        Keyword::Irq => irq(alloc, pieces),
+        Keyword::Page => plain(alloc, pieces, Call::PageNow),
+        Keyword::Space => space(pieces),
+        _ => any_line_after(alloc, keyword, pieces),
+    }
 }
 
 /// The line that these bytes are, without their line feed; else their leftmost fault. It takes memory for the bytes of a
@@ -408,5 +448,13 @@ pub fn read_line(alloc: Global, bytes: &[u8]) -> Result<Line, LineError>
     // A fault is found, unless memory runs out.
     ensures exact { (e : LineError) → LineFault bytes.now e → (result ≡ Err Memory) ⊎ (result ≡ Err e) }
 {
-    read_whole(alloc, bytes)
+    let (first, rest) = bytes.split_at(piece_len(bytes));
+    let Some(keyword) = keyword_of(first) else {
+        return Err(LineError::Word(0));
+    };
+    let mut pieces = Pieces {
+        at: first.len() + 1,
+        rest,
+    };
+    line_after(alloc, keyword, &mut pieces)
 }

@@ -33,6 +33,14 @@ fn the_leftmost_fault_is_given(rt: HostRuntime) {
         ("hw c0 s0 RW_BOTH X 01", LineError::Word(9)),
         ("hw c0 s0 RW_INTERLEAVED U8 2 x", LineError::Number(29)),
         ("threads x", LineError::Long(8)),
+        ("# four frames", LineError::Word(0)),
+        ("version 01", LineError::Number(8)),
+        ("version -1 x", LineError::Number(8)),
+        ("version 2 2", LineError::Long(10)),
+        ("carry s0 s16", LineError::Word(9)),
+        ("wire s0 c1 x", LineError::Word(8)),
+        ("wire s0", LineError::Short),
+        ("card s0 Indirect p", LineError::Word(8)),
     ];
     for (text, fault) in table {
         match read_line(rt.alloc(), text.as_bytes()) {
@@ -48,6 +56,7 @@ fn every_form_is_printed_as_it_was_read(rt: HostRuntime) -> Result<(), Fail> {
         "long 1023",
         "card s0 duplex p",
         "card s15 noresume c",
+        "card s0 indirect p",
         "open c0 s0",
         "close c15 s15",
         "hw c0 s0 MMAP_NONINTERLEAVED S24_3LE 2 48000 1024 4",
@@ -84,6 +93,7 @@ fn every_form_is_printed_as_it_was_read(rt: HostRuntime) -> Result<(), Fail> {
         "move s0 4",
         "irq s0",
         "fail s0 1",
+        "unplug s0",
         "give s0 7f80",
         "feed s0 a-b_c.wav",
         "save s0 -",
@@ -91,6 +101,9 @@ fn every_form_is_printed_as_it_was_read(rt: HostRuntime) -> Result<(), Fail> {
         "beat s0 4 100",
         "threads",
         "join",
+        "version 2",
+        "carry s0 s1",
+        "wire s14 s15",
     ];
     for text in lines {
         let line = read_line(rt.alloc(), text.as_bytes())?;
@@ -161,6 +174,28 @@ fn operands_stand_in_their_order(rt: HostRuntime) -> Result<(), Fail> {
         _ => assert!(rt; false),
     }
     Ok(())
+}
+
+#[test]
+fn the_first_substream_stands_first(rt: HostRuntime) -> Result<(), Fail> {
+    match read_line(rt.alloc(), b"carry s2 s11")? {
+        Line::Carry(from, to) => assert_eq!(rt; (from, to), (SubId(2), SubId(11))),
+        _ => assert!(rt; false),
+    }
+    match read_line(rt.alloc(), b"wire s11 s2")? {
+        Line::Wire(from, to) => assert_eq!(rt; (from, to), (SubId(11), SubId(2))),
+        _ => assert!(rt; false),
+    }
+    Ok(())
+}
+
+#[test]
+fn remarks_are_skipped_in_version_2(rt: HostRuntime) {
+    for text in ["", "#", "# four frames"] {
+        assert!(rt; is_skipped(2, text.as_bytes()), "{text}");
+        assert!(rt; !is_skipped(1, text.as_bytes()), "{text}");
+    }
+    assert!(rt; !is_skipped(2, b" # four frames"));
 }
 
 #[test]

@@ -32,6 +32,7 @@ pub(crate) fn model_text(model: Model) -> &'static [u8]
         Model::Studio => b"studio",
         Model::NoPause => b"nopause",
         Model::NoResume => b"noresume",
+        Model::Indirect => b"indirect",
     }
 }
 
@@ -119,5 +120,6 @@ pub(crate) fn call_word(call: Call) -> &'static [u8]
         Call::Irq => b"irq",
         Call::FailAt(_) => b"fail",
         Call::Give => b"give",
+        Call::Unplug => b"unplug",
     }
 }

@@ -1,3 +1,4 @@
 pub mod FrontLemmas
 pub mod WokenLemmas
 pub mod NameLemmas
+pub mod HexBlocks

@@ -18,6 +18,7 @@ state_name state.Xrun = codes "XRUN"
 state_name state.Draining = codes "DRAINING"
 state_name state.Paused = codes "PAUSED"
 state_name state.Suspended = codes "SUSPENDED"
+state_name state.Disconnected = codes "DISCONNECTED"
 
 -- a line that names no substream shows no state
 abbrev pub shown_state : Option State → List ℕ

@@ -18,6 +18,7 @@ pub fn state_name(state: State) -> &'static str
         State::Draining => "DRAINING",
         State::Paused => "PAUSED",
         State::Suspended => "SUSPENDED",
+        State::Disconnected => "DISCONNECTED",
     }
 }
 

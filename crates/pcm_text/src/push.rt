@@ -15,10 +15,14 @@ pub fn push_text(text: &mut Vec<u8>, part: &[u8]) -> Result<(), AllocError>
 }
 
 /// Puts the number in decimal at the end of the text. An error leaves the text as it was.
+#[tactic(auto, using(std::proofs::lemmas::Fmt::decimal_digit))]
 pub fn push_number(text: &mut Vec<u8>, number: u64) -> Result<(), AllocError>
     ensures ok { OnOk result (text.new.items ≡ text.old.items ++ decimal number) }
     ensures err { OnErr result (text.new.items ≡ text.old.items) }
 {
+    if number < 10 {
+        return Ok(text.push(b'0' + number as u8)?);
+    }
     push_text(text, Buffer::new().format(number).as_bytes())
 }
 

@@ -31,7 +31,7 @@ fn transcript_lines(rt: HostRuntime) -> Result<(), Fail> {
     let running = Some(State::Running);
     let taken: &[u8] = &[1, 2, 3];
     let mixed: &[u8] = &[0x00, 0x0a, 0xf0, 0xff];
-    let lines: [Shown; 22] = [
+    let lines: [Shown; 24] = [
         (
             5,
             Reply::Frames(4),
@@ -173,6 +173,22 @@ fn transcript_lines(rt: HostRuntime) -> Result<(), Fail> {
             "6 busy c0 RUNNING\n",
         ),
         (1, Reply::Ok, None, 0, None, "1 ok -\n"),
+        (
+            6,
+            Reply::Ok,
+            Some(State::Disconnected),
+            1,
+            None,
+            "6 ok DISCONNECTED wake c0\n",
+        ),
+        (
+            8,
+            Reply::Err(Errno::Ebadfd),
+            Some(State::Disconnected),
+            0,
+            None,
+            "8 err EBADFD 77 DISCONNECTED\n",
+        ),
     ];
     for (number, reply, state, woken, bytes, shown) in lines {
         let told = Told {
