@@ -3,10 +3,11 @@
 
     python3 tests/wav/other_programs.py
 
-Python's module `wave` and `sox` write files in U8, S16_LE, S24_3LE and S32_LE, with one to eight channels. The program
+Python's module `wave` and `sox` write files in U8, S16_LE, S24_3LE and S32_LE, with one to eight channels, some of them
+extensible; no program at hand writes S24_LE, so its extensible files are put together here, byte by byte. The program
 of rewrite/, built as those of bench/ are, reads each with `read_wav` and tells what it found, and writes it anew with
-`write_wav`; `wave` and `sox` read that back. An extensible file (tag 65534) is to be refused. What is missing is
-skipped, and said so.
+`write_wav`; `wave` and `sox` read that back, and of S24_LE it is to be the same file. What is missing is skipped, and
+said so; `wave` reads an extensible file from Python 3.12 on.
 
 The last line is `N passed, M failed, K skipped`, of files; the exit status is 1 where something failed.
 """
@@ -26,6 +27,7 @@ USES = ["pcm_base", "wav_file"]
 RATE = 44100
 FRAMES = 101  # odd: a file of U8 with an odd count of channels has a pad
 EXTENSIBLE = 65534
+PCM_SUBTYPE = bytes.fromhex("0100000000001000800000aa00389b71")
 # name: bytes of a sample, sox's encoding
 FORMATS = {
     "U8": (1, "unsigned-integer"),
@@ -33,11 +35,16 @@ FORMATS = {
     "S24_3LE": (3, "signed-integer"),
     "S32_LE": (4, "signed-integer"),
 }
+BY_HAND = "S24_LE"  # in a file its samples stand in the high three bytes of four, as those of S32_LE
 
 
 def frames_of(name, channels):
     """Bytes that differ from sample to sample and from byte to byte."""
-    return bytes((7 * i + i // 256) % 256 for i in range(FRAMES * channels * FORMATS[name][0]))
+    count = FRAMES * channels * FORMATS["S32_LE" if name == BY_HAND else name][0]
+    frames = bytearray((7 * i + i // 256) % 256 for i in range(count))
+    if name == BY_HAND:
+        frames[0::4] = bytes(len(frames) // 4)
+    return bytes(frames)
 
 
 def write_by_wave(path, name, channels):
@@ -46,6 +53,14 @@ def write_by_wave(path, name, channels):
         out.setsampwidth(FORMATS[name][0])
         out.setframerate(RATE)
         out.writeframes(frames_of(name, channels))
+
+
+def write_by_hand(path, name, channels):
+    frames = frames_of(name, channels)
+    align = 4 * channels
+    body = struct.pack("<HHIIHHHHI", EXTENSIBLE, channels, RATE, RATE * align, align, 32, 22, 24, 0) + PCM_SUBTYPE
+    chunks = b"fmt " + struct.pack("<I", len(body)) + body + b"data" + struct.pack("<I", len(frames)) + frames
+    path.write_bytes(b"RIFF" + struct.pack("<I", 4 + len(chunks)) + b"WAVE" + chunks)
 
 
 def raw(name, channels):
@@ -65,18 +80,6 @@ def writer_by_sox(kind):
 
 
 WRITERS = {"wave": write_by_wave, "sox-wavpcm": writer_by_sox("wavpcm"), "sox-wav": writer_by_sox("wav")}
-
-
-def format_tag(path):
-    """The tag of the "fmt " chunk, found here without `wave`, which knows fewer files."""
-    data = path.read_bytes()
-    at = 12
-    while at + 8 <= len(data):
-        size = struct.unpack_from("<I", data, at + 4)[0]
-        if data[at : at + 4] == b"fmt ":
-            return struct.unpack_from("<H", data, at + 8)[0]
-        at += 8 + size + size % 2
-    return None
 
 
 def needed(uses, names):
@@ -112,33 +115,49 @@ def build(folder, file):
     return source.parent / "out" / PROGRAM
 
 
+def fault_of_wave(again, name, channels):
+    """What `wave` finds wrong with what was written, or None."""
+    if name == BY_HAND and sys.version_info < (3, 12):
+        return None
+    width = FORMATS["S32_LE" if name == BY_HAND else name][0]
+    with wave.open(str(again), "rb") as read:
+        if (read.getnchannels(), read.getsampwidth(), read.getframerate()) != (channels, width, RATE):
+            return "`wave` reads other channels, width or rate in what was written"
+        if read.readframes(read.getnframes()) != frames_of(name, channels):
+            return "`wave` reads other frames in what was written"
+    return None
+
+
+def fault_of_sox(again, name, channels):
+    """What `sox` finds wrong with what was written, or None."""
+    if not shutil.which("sox"):
+        return None
+    words = raw("S32_LE" if name == BY_HAND else name, channels)
+    read = subprocess.run(["sox", "-D", str(again), *words, "-"], capture_output=True)
+    if (read.returncode, read.stderr, read.stdout) == (0, b"", frames_of(name, channels)):
+        return None
+    return f"`sox` reads other frames in what was written, or complains: {read.stderr.decode().strip()}"
+
+
 def fault(program, file, name, channels):
     """What is wrong with one file, or None."""
     run = subprocess.run([program], input=file.read_bytes(), capture_output=True)
     told = run.stderr.decode(errors="replace").strip()
-    if format_tag(file) == EXTENSIBLE:
-        refused = (run.returncode, told, run.stdout) == (1, f"not PCM {EXTENSIBLE}", b"")
-        return None if refused else f"status {run.returncode} for an extensible file: {told}"
-    frames = frames_of(name, channels)
-    if (run.returncode, told) != (0, f"{name} {channels} {RATE} {len(frames)}"):
+    if (run.returncode, told) != (0, f"{name} {channels} {RATE} {len(frames_of(name, channels))}"):
         return f"status {run.returncode}: {told}"
+    if name == BY_HAND and run.stdout != file.read_bytes():
+        return "another file is written"
     again = file.with_suffix(".again.wav")
     again.write_bytes(run.stdout)
-    with wave.open(str(again), "rb") as read:
-        if (read.getnchannels(), read.getsampwidth(), read.getframerate()) != (channels, FORMATS[name][0], RATE):
-            return "`wave` reads other channels, width or rate in what was written"
-        if read.readframes(read.getnframes()) != frames:
-            return "`wave` reads other frames in what was written"
-    if shutil.which("sox"):
-        read = subprocess.run(["sox", "-D", str(again), *raw(name, channels), "-"], capture_output=True)
-        if (read.returncode, read.stderr, read.stdout) != (0, b"", frames):
-            return f"`sox` reads other frames in what was written, or complains: {read.stderr.decode().strip()}"
-    return None
+    return fault_of_wave(again, name, channels) or fault_of_sox(again, name, channels)
 
 
 def files_in(folder):
     """Writes the files; each with its format and channels."""
     files = []
+    for channels in range(1, 9):
+        files.append((folder / f"by-hand-{BY_HAND}-{channels}.wav", BY_HAND, channels))
+        write_by_hand(*files[-1])
     for writer, write in WRITERS.items():
         if not writer.startswith("sox") or shutil.which("sox"):
             for name in FORMATS:
@@ -170,7 +189,7 @@ def main():
         print("skipped: no program sox, so it writes and reads no file")
     with tempfile.TemporaryDirectory() as folder:
         passed, failed = test(Path(folder))
-    skipped = len(WRITERS) * len(FORMATS) * 8 - passed - failed
+    skipped = (len(WRITERS) * len(FORMATS) + 1) * 8 - passed - failed
     print(f"{passed} passed, {failed} failed, {skipped} skipped")
     return 1 if failed else 0
 

@@ -3,13 +3,12 @@ use Rattle.std.proofs.Common.{◌≡◌, ◌≢◌, ℕ, zero, suc, ◌+◌, ◌
 use Rattle.std.specs.Prelude.{codes, flat_map}
 use Rattle.std.specs.List.{AllByRecursion}
 use Rattle.std.specs.Str.{bytes_eq}
-use Rattle.std.proofs.lemmas.Bool.{cases_lt, cases_Bool, both_ways, or_from, or_left, or_right, or_parts, and_parts, and_from, leb-true, le-leb, cond-true, cond-false, false_from_ne_true, MatchBool-at_true, MatchBool-at_false}
+use Rattle.std.proofs.lemmas.Bool.{cases_lt, cases_Bool, both_ways, or_from, or_left, or_right, or_parts, and_parts, and_from, leb-true, le-leb, cond-true, cond-false, MatchBool-at_true, MatchBool-at_false}
 use Rattle.std.proofs.lemmas.List.{length-append, length-drop, length-take, drop_at, take_at, drop-drop}
 use Rattle.std.proofs.lemmas.List.Concat.{flat_map-cons}
-use Rattle.std.proofs.lemmas.Slice.Eq.{bytes_eq-Decides}
 use Rattle.byteorder.specs.Endian.{little_number}
 use Rattle.byteorder.specs.Numbers.{little_from-take}
-use Rattle.wav_file.specs.Recordings.{Recording, frame_bytes, whole_frames}
+use Rattle.wav_file.specs.Recordings.{Recording, frame_bytes, whole_frames, frames_from}
 use Rattle.wav_file.specs.Chunks.{Place, AreChunks, next_place, past_chunk, size_at, body_at, has_id, from_first, is_data, is_format_or_data}
 use Rattle.wav_file.specs.Grammar.{WholeChunk, IsWhole, chunk_bytes, first_format, IsFormat, IsWav}
 use Rattle.wav_file.specs.Faults.{is_riff, after_riff, format_at, with_data, from_format, told, WavFault, Answers, recording_of}
@@ -17,7 +16,7 @@ use Rattle.wav_file.specs.declared.layout.Layout.{Layout}
 use Rattle.wav_file.specs.declared.wav.WavError.{WavError}
 use Rattle.wav_file.specs.declared.wav.WavError.TheVariants.{NotRiff, NoFmt}
 use Rattle.wav_file.proofs.Search.{from_first-yes, from_first-no}
-use Rattle.wav_file.proofs.Pieces.{Opens, head_opens, Begins, chunk_begins, chunk_at, chunk_at-whole, chunk_at-joins, head_joins, split_again}
+use Rattle.wav_file.proofs.Pieces.{Opens, head_opens, Begins, chunk_begins, chunk_at, chunk_at-whole, chunk_at-joins, head_joins, split_again, id_true, id_same, id_false}
 use Rattle.wav_file.proofs.Formats.{layout, format_says, format_read}
 
 -- ---- the chunks from a place on are there, and are one list
@@ -43,17 +42,6 @@ list_within (suc n) p le =
 
 pub some_list : (p : Place) → (cs : List Place) × AreChunks p cs
 some_list p = list_within (length p.bytes) p (omega arith)
-
--- ---- an id at the front
-
-pub id_true : (id bytes : List ℕ) → bytes_eq id bytes ≡ true → bytes ≡ id
-id_true id bytes e = sym ((bytes_eq-Decides id bytes).0 e)
-
-pub id_same : (id : List ℕ) → bytes_eq id id ≡ true
-id_same id = (bytes_eq-Decides id id).1 refl
-
-pub id_false : (id bytes : List ℕ) → bytes ≢ id → bytes_eq id bytes ≡ false
-id_false id bytes other = false_from_ne_true (bytes_eq id bytes) (λ e. other (id_true id bytes e))
 
 abbrev data_id : List ℕ
 data_id = codes "data"
@@ -253,7 +241,7 @@ heard (c ∷ cs) r e =
     ]
 
 abbrev recorded : Layout → Place → Recording
-recorded l d = record { format = l.format; channels = l.channels; rate = l.rate; frames = whole_frames (frame_bytes l.format l.channels) (body_at d.bytes) }
+recorded l d = recording_of l (whole_frames (frame_bytes l.format l.channels) (body_at d.bytes))
 
 record Found (f : Result Layout WavError) (ds : List Place) (r : Recording) : Type 0 where
   layout_is : Layout
@@ -292,7 +280,7 @@ wav_from_told bytes cs r riff are e =
       body = body_at h.place.bytes;
       first = k.format h.place h.more h.places_are h.no_data;
       says = says.1;
-      frames = ap (λ (n : ℕ). whole_frames (frame_bytes f.layout_is.format f.layout_is.channels) (take n (drop 8 d))) size_is;
+      frames = ap (λ (n : ℕ). frames_from f.layout_is.format (whole_frames (frame_bytes f.layout_is.format f.layout_is.channels) (take n (drop 8 d)))) size_is;
     } in
     subst (IsWav bytes) f.recording_is wav
 
@@ -309,8 +297,9 @@ told_from_wav bytes r wav =
           let f = finds_format (after_riff bytes) wav.chunks tail wav.body cs wav.whole wav.before_data riff.1 are wav.first in
           let says : IsFormat (body_at f.place.bytes) r.format r.channels r.rate = rw f.body_is wav.says in
           let read = format_read f.place r.format r.channels r.rate f.fits says in
-          let frames : whole_frames (frame_bytes r.format r.channels) (body_at d.0.bytes) ≡ r.frames =
-          ap (λ (x : List ℕ). whole_frames (frame_bytes r.format r.channels) (body_at x)) d.3 ∙ ap (whole_frames (frame_bytes r.format r.channels)) body ∙ sym wav.frames in
+          let stored : whole_frames (frame_bytes r.format r.channels) (body_at d.0.bytes) ≡ whole_frames (frame_bytes r.format r.channels) (take (little_number 4 wav.data_size) wav.rest) =
+          ap (λ (x : List ℕ). whole_frames (frame_bytes r.format r.channels) (body_at x)) d.3 ∙ ap (whole_frames (frame_bytes r.format r.channels)) body in
+          let frames : frames_from r.format (whole_frames (frame_bytes r.format r.channels) (body_at d.0.bytes)) ≡ r.frames = ap (frames_from r.format) stored ∙ sym wav.frames in
           ap from_format f.first
           ∙ cond-false _ (Err NoFmt) _ f.no_data
           ∙ ap (λ (x : Result Layout WavError). with_data x (from_first is_data (f.place ∷ f.more))) read

@@ -3,3 +3,4 @@ pub mod Pieces
 pub mod Formats
 pub mod Files
 pub mod Written
+pub mod SampleMoves

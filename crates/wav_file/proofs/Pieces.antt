@@ -1,6 +1,9 @@
 -- A chunk at the front of some bytes, taken apart and put together.
-use Rattle.std.proofs.Common.{◌≡◌, ℕ, ◌+◌, ◌-◌, ◌%◌, ◌≤◌, List, ◌++◌, length, take, drop, refl, sym, ap, ◌∙◌, append_assoc, arith}
-use Rattle.std.proofs.lemmas.List.{length-append, length-drop, length-take, take-append-drop, take_at, drop_at, drop-drop, drop-take}
+use Rattle.std.proofs.Common.{◌≡◌, ◌≢◌, true, false, ℕ, ◌+◌, ◌-◌, ◌%◌, ◌≤◌, List, ◌++◌, length, take, drop, refl, sym, ap, ◌∙◌, append_assoc, arith}
+use Rattle.std.proofs.lemmas.List.{length-append, length-drop, length-take, take-append-drop, take_at, drop_at, drop-drop, drop-take, take_rest}
+use Rattle.std.specs.Str.{bytes_eq}
+use Rattle.std.proofs.lemmas.Bool.{false_from_ne_true}
+use Rattle.std.proofs.lemmas.Slice.Eq.{bytes_eq-Decides}
 use Rattle.byteorder.specs.Endian.{little_number}
 use Rattle.byteorder.specs.Numbers.{little_from-append, little_from-take}
 use Rattle.wav_file.specs.Recordings.{number_at}
@@ -16,6 +19,10 @@ number_at-take n place len bytes fits =
 
 pub number_at-drop : (n place skip : ℕ) (bytes : List ℕ) → number_at n place (drop skip bytes) ≡ number_at n (skip + place) bytes
 number_at-drop n place skip bytes = ap (little_number n) (drop-drop place skip bytes)
+
+-- a number that is read from the bytes from a place on
+pub number_read : (n place x : ℕ) (bytes : List ℕ) → x ≡ little_number n (take (length bytes - place) (drop place bytes)) → number_at n place bytes ≡ x
+number_read n place x bytes e = sym (e ∙ ap (little_number n) (take_rest bytes place))
 
 -- a number of four bytes in front of others
 pub front_number : (four rest : List ℕ) → length four ≡ 4 → little_number 4 (four ++ rest) ≡ little_number 4 four
@@ -108,3 +115,14 @@ chunk_at-joins bytes =
     append_assoc id (size ++ (body ++ pad)) tail
     ∙ ap (λ (x : List ℕ). id ++ x) (append_assoc size (body ++ pad) tail ∙ ap (λ (x : List ℕ). size ++ x) (append_assoc body pad tail)) in
     head_joins bytes ∙ ap (λ (x : List ℕ). id ++ (size ++ x)) body_pad ∙ sym grouped
+
+-- ---- an id at the front
+
+pub id_true : (id bytes : List ℕ) → bytes_eq id bytes ≡ true → bytes ≡ id
+id_true id bytes e = sym ((bytes_eq-Decides id bytes).0 e)
+
+pub id_same : (id : List ℕ) → bytes_eq id id ≡ true
+id_same id = (bytes_eq-Decides id id).1 refl
+
+pub id_false : (id bytes : List ℕ) → bytes ≢ id → bytes_eq id bytes ≡ false
+id_false id bytes other = false_from_ne_true (bytes_eq id bytes) (λ e. other (id_true id bytes e))

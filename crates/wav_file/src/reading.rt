@@ -9,6 +9,7 @@ ghost use Rattle.wav_file.specs.declared.wav.WavError.TheVariants.{Memory};
 
 use crate::chunk::{Chunk, Stop, body_size, find_chunk, is_data};
 use crate::layout::{Layout, layout_of};
+use crate::samples::frames_of;
 use crate::wav::{Wav, WavError};
 use std::alloc::Global;
 
@@ -31,7 +32,7 @@ fn frames_in<'a>(chunk: Chunk<'a>, layout: &Layout) -> &'a [u8]
     &body[..held - held % layout.frame_bytes()]
 }
 
-/// What the file holds, its frames where they stand.
+/// What the file holds, its frames as they stand there.
 fn sound_in(bytes: &[u8]) -> Result<(Layout, &[u8]), WavError>
     ensures { MatchResult result (λ x. Answers bytes.now (Ok (recording_of x.0 x.1.now))) (λ e. Answers bytes.now (Err e)) }
 {
@@ -56,7 +57,8 @@ fn sound_in(bytes: &[u8]) -> Result<(Layout, &[u8]), WavError>
 }
 
 /// Reads a WAV file. The chunk heads are looked at in order, up to the first "data" chunk, and the first thing that is
-/// wrong is the error. The frames are the whole frames of that chunk, or as many as the file has.
+/// wrong is the error. The frames are the whole frames of that chunk, or as many as the file has. An extensible file with 24
+/// valid bits in 32 is read as S24_LE, with the unused byte 0; any other as the format of its bits.
 pub fn read_wav(alloc: Global, bytes: &[u8]) -> Result<Wav, WavError>
     // The bytes are a WAV file of what is read.
     ensures found { IfOk result (λ wav. IsWav bytes.now (recording wav)) }
@@ -68,7 +70,7 @@ pub fn read_wav(alloc: Global, bytes: &[u8]) -> Result<Wav, WavError>
     ensures only_fault { (e : WavError) → WavFault bytes.now e → result ≡ Err e }
 {
     let (layout, frames) = sound_in(bytes)?;
-    let frames = Vec::from_slice(alloc, frames)?;
+    let frames = frames_of(alloc, layout.format, frames)?;
     Ok(Wav {
         format: layout.format,
         channels: layout.channels,

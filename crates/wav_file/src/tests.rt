@@ -11,19 +11,23 @@ const SHORT_DATA: [u8; 50] =
 const ODD_CHUNK: [u8; 55] =
     *b"RIFF\0\0\0\0WAVELIST\x01\0\0\0x\0fmt \x10\0\0\0\x01\0\x01\0\x40\x1f\0\0\x40\x1f\0\0\x01\0\x08\0data\x01\0\0\0\x7f";
 
+/// A mono frame of S24_LE at 8000 Hz, in an extensible file.
+const EXTENSIBLE: [u8; 72] =
+    *b"RIFF\x40\0\0\0WAVEfmt \x28\0\0\0\xfe\xff\x01\0\x40\x1f\0\0\0\x7d\0\0\x04\0\x20\0\x16\0\x18\0\0\0\0\0\x01\0\0\0\0\0\x10\0\x80\0\0\xaa\0\x38\x9b\x71data\x04\0\0\0\0\x01\x02\x03";
+
 fn frame_bytes_read(alloc: Global, bytes: &[u8]) -> Result<usize, WavError> {
     let wav = read_wav(alloc, bytes)?;
     Ok(wav.frames.len())
 }
 
-fn with_bytes(changes: [(usize, u8); 2]) -> [u8; 50] {
-    let mut file = SHORT_DATA;
+fn with_bytes<const N: usize>(file: [u8; N], changes: [(usize, u8); 2]) -> [u8; N] {
+    let mut changed = file;
     for (at, byte) in changes {
-        if at < 50 {
-            file[at] = byte;
+        if at < N {
+            changed[at] = byte;
         }
     }
-    file
+    changed
 }
 
 #[test]
@@ -66,7 +70,7 @@ fn each_wrong_field_is_named(rt: HostRuntime) {
         ([(16, 15), (20, 3)], WavError::BadFmt(16)),
         ([(16, 40), (20, 3)], WavError::BadFmt(12)),
         ([(20, 3), (16, 17)], WavError::NotPcm(3)),
-        ([(20, 0xfe), (21, 0xff)], WavError::NotPcm(65_534)),
+        ([(20, 0xfe), (21, 0xff)], WavError::BadFmt(16)),
         ([(16, 17), (22, 0)], WavError::BadFmt(16)),
         ([(22, 0), (34, 12)], WavError::BadFmt(22)),
         ([(22, 9), (34, 12)], WavError::BadFmt(22)),
@@ -76,11 +80,90 @@ fn each_wrong_field_is_named(rt: HostRuntime) {
     ];
     for (changes, want) in cases {
         assert_eq!(rt;
-            frame_bytes_read(rt.alloc(), &with_bytes(changes)),
+            frame_bytes_read(rt.alloc(), &with_bytes(SHORT_DATA, changes)),
             Err(want),
             "{want:?}"
         );
     }
+}
+
+#[test]
+fn an_extensible_file_cut_at_each_length(rt: HostRuntime) {
+    for len in 0..73 {
+        let want = match len {
+            0..=11 => Err(WavError::NotRiff),
+            12..=19 => Err(WavError::NoFmt),
+            20..=59 => Err(WavError::BadFmt(12)),
+            60..=67 => Err(WavError::NoData),
+            68..=71 => Ok(0),
+            _ => Ok(4),
+        };
+        assert_eq!(rt;
+            frame_bytes_read(rt.alloc(), &EXTENSIBLE[..len]),
+            want,
+            "{len} bytes"
+        );
+    }
+}
+
+#[test]
+fn each_wrong_field_of_an_extensible_file_is_named(rt: HostRuntime) {
+    let cases = [
+        ([(16, 18), (44, 3)], WavError::BadFmt(16)),
+        ([(16, 41), (44, 3)], WavError::BadFmt(16)),
+        ([(20, 1), (21, 0)], WavError::BadFmt(16)),
+        ([(20, 3), (16, 18)], WavError::NotPcm(65_283)),
+        ([(44, 3), (22, 0)], WavError::NotPcm(3)),
+        ([(59, 0), (22, 9)], WavError::NotPcm(1)),
+        ([(22, 0), (38, 33)], WavError::BadFmt(22)),
+        ([(24, 0), (25, 0)], WavError::BadFmt(24)),
+        ([(34, 12), (38, 33)], WavError::Width(12)),
+        ([(38, 33), (32, 8)], WavError::Width(33)),
+        ([(38, 25), (34, 24)], WavError::Width(25)),
+        ([(32, 8), (36, 0)], WavError::BadFmt(32)),
+    ];
+    for (changes, want) in cases {
+        assert_eq!(rt;
+            frame_bytes_read(rt.alloc(), &with_bytes(EXTENSIBLE, changes)),
+            Err(want),
+            "{want:?}"
+        );
+    }
+}
+
+#[test]
+fn the_valid_bits_tell_the_format(rt: HostRuntime) -> Result<(), Fail> {
+    let cases = [
+        (32, 24, 4, Format::S24Le, [1, 2, 3, 0]),
+        (32, 32, 4, Format::S32Le, [0, 1, 2, 3]),
+        (32, 20, 4, Format::S32Le, [0, 1, 2, 3]),
+        (32, 0, 4, Format::S32Le, [0, 1, 2, 3]),
+        (16, 12, 2, Format::S16Le, [0, 1, 2, 3]),
+        (8, 8, 1, Format::U8, [0, 1, 2, 3]),
+    ];
+    for (bits, valid, align, format, frames) in cases {
+        let file = with_bytes(EXTENSIBLE, [(34, bits), (38, valid)]);
+        let file = with_bytes(file, [(32, align), (40, 4)]);
+        let wav = read_wav(rt.alloc(), &file)?;
+        assert_eq!(rt; wav.format, format, "{bits} {valid}");
+        assert_eq!(rt; wav.frames.as_slice(), frames.as_slice(), "{bits} {valid}");
+    }
+    Ok(())
+}
+
+#[test]
+fn the_unused_byte_of_s24_le_is_not_written(rt: HostRuntime) -> Result<(), Fail> {
+    let wav = Wav {
+        format: Format::S24Le,
+        channels: 1,
+        rate: 8000,
+        frames: Vec::from_slice(rt.alloc(), &[1, 2, 3, 0xff])?,
+    };
+    assert_eq!(rt;
+        write_wav(rt.alloc(), &wav)?.as_slice(),
+        EXTENSIBLE.as_slice()
+    );
+    Ok(())
 }
 
 #[test]

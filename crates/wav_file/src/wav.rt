@@ -30,10 +30,10 @@ pub enum WavError {
     /// The field at this offset of the "fmt " chunk is wrong, or the chunk at this offset reaches beyond the end.
     #[error("bad fmt at {0}")]
     BadFmt(usize),
-    /// The samples are not PCM, but of this tag.
+    /// The samples are not PCM, but of this tag, or of an extensible file's subtype that begins with this number.
     #[error("not PCM {0}")]
     NotPcm(u16),
-    /// The samples have this many bits.
+    /// The samples have this many bits, or more valid bits than bits, namely this many.
     #[error("width {0}")]
     Width(u16),
     /// This many bytes of frames are too long to be written.

@@ -20,8 +20,8 @@ returns-in_err-layout-clause-only_fault c =
 
 pub returns-clause-found : goal.returns-clause-found
 returns-clause-found c =
-    rw c.in_ok-frames.ensures.items (ok_is_wav c.args.bytes.now (recording_of c.in_ok-layout.layout c.in_ok-layout.frames.now) c.in_ok-layout.ensures)
+    rw c.in_ok-frames.ensures (ok_is_wav c.args.bytes.now (recording_of c.in_ok-layout.layout c.in_ok-layout.frames.now) c.in_ok-layout.ensures)
 
 pub returns-clause-only : goal.returns-clause-only
 returns-clause-only c = λ r wav.
-    rw c.in_ok-frames.ensures.items (one_recording c.args.bytes.now (recording_of c.in_ok-layout.layout c.in_ok-layout.frames.now) r (ok_is_wav c.args.bytes.now (recording_of c.in_ok-layout.layout c.in_ok-layout.frames.now) c.in_ok-layout.ensures) wav)
+    rw c.in_ok-frames.ensures (one_recording c.args.bytes.now (recording_of c.in_ok-layout.layout c.in_ok-layout.frames.now) r (ok_is_wav c.args.bytes.now (recording_of c.in_ok-layout.layout c.in_ok-layout.frames.now) c.in_ok-layout.ensures) wav)
