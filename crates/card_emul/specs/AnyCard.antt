@@ -1,12 +1,10 @@
--- What holds of the fields of every emulated card.
-use Rattle.std.specs.Prelude.{◌≡◌, ◌<◌}
-use Rattle.std.specs.Option.{ForSome, ForNone}
-use Rattle.pcm_base.specs.CardFacts.{HasChannels}
-use Rattle.pcm_base.specs.Shape.{IsSoundShape}
-use Rattle.card_emul.specs.declared.any_card.AnyCard.TheInside.{Inside}
+-- What an emulated card shows, however it is wired. This project's own.
+use Rattle.card_emul.specs.declared.any_card.Wiring.{Wiring}
+use Rattle.card_emul.specs.declared.any_card.Wiring.TheVariants.{Direct, Indirect}
+use Rattle.card_emul.specs.EmulatedCard.{EmulatedCard}
+use Rattle.indirect_card.specs.IndirectCard.{inner_of}
 
-pub record IsSoundCard (c : Inside) : Type 0 where
-  pub shape : ForSome c.shape (λ s. IsSoundShape s)
-  pub below : ForSome c.shape (λ s. c.position < s.buffer)
-  pub before : ForNone c.shape (c.position ≡ 0)
-  pub channels : HasChannels c.model
+-- the channel that the frames reach
+abbrev pub channel_in : Wiring → EmulatedCard
+channel_in (Direct c) = c
+channel_in (Indirect c) = inner_of c

@@ -1,3 +1,4 @@
 pub mod Limits
 pub mod EmulatedCard
+pub mod Channel
 pub mod AnyCard

@@ -69,10 +69,11 @@ studio = record {
   can_resume = true;
 }
 
--- the limits of each model; two are as basic, but for pause and resume
+-- the limits of each model; three are as basic, two of them but for pause and resume
 abbrev pub limits_of : Model → CardModel
 limits_of model.Basic = basic
 limits_of model.Duplex = duplex
 limits_of model.Studio = studio
 limits_of model.NoPause = record basic { can_pause = false }
 limits_of model.NoResume = record basic { can_resume = false }
+limits_of model.Indirect = basic

@@ -1,52 +1,47 @@
 // A card in memory.
-ghost use Rattle.std.specs.Prelude.{◌≡◌, ◌<◌};
-ghost use Rattle.pcm_base.specs.CardFacts.{advanced, runs_after as after_trigger};
-ghost use Rattle.pcm_base.specs.Shape.{IsSoundShape, count_of};
+ghost use Rattle.std.specs.Prelude.{◌≡◌};
 ghost use Rattle.card_emul.specs.Limits.{limits_of};
 ghost use Rattle.card_emul.specs.EmulatedCard.{facts_of, new_card};
 
-use crate::fault_plan::FaultPlan;
-use crate::frames_to_give::FramesToGive;
+use crate::channel::Channel;
 use crate::model_of;
+use indirect_card::IndirectCard;
 use pcm_base::{Card, CardFailed, CardModel, Dir, Errno, Shape, Trigger};
 use std::alloc::{AllocError, Global};
 use std::marker::Model;
+
+// How frames reach the channel: straight, or through a hardware buffer.
+#[derive(Drop)]
+enum Wiring {
+    Direct(Channel),
+    Indirect(IndirectCard<Channel>),
+}
 
 /// A card in memory, of any of the models: it keeps the frames that it takes, gives those that it was handed, and fails
 /// by a plan that it always tells. This project's own.
 #[derive(Drop)]
 pub struct AnyCard {
-    model: CardModel,
-    runs: bool,
-    shape: Option<Shape>,
-    position: u64,
-    taken: Vec<u8>,
-    to_give: FramesToGive,
-    plan: FaultPlan,
-    faults: u64,
+    wiring: Wiring,
 }
 
 impl Model for AnyCard {
-    ghost use Rattle.std.specs.Prelude.{◌-◌, vec_capacity, vec_len};
     ghost use Rattle.card_emul.specs.EmulatedCard.{EmulatedCard};
 
     ghost Value = { EmulatedCard };
 
-    ghost use Rattle.card_emul.specs.AnyCard.{IsSoundCard};
+    ghost use Rattle.card_emul.specs.AnyCard.{channel_in};
 
-    ghost view = { λ c. record {
-      runs = c.runs;
-      shape = c.shape;
-      position = c.position;
-      taken = c.taken.items;
-      to_give = c.to_give;
-      plan = c.plan;
-      model = c.model;
-      room = vec_capacity c.taken - vec_len c.taken;
-      faults = c.faults;
-    } };
+    ghost view = { λ c. channel_in c.wiring };
+}
 
-    ghost invariant = { IsSoundCard };
+// The same call of a card of either wiring.
+macro_rules! wired {
+    ($wiring:expr, $card:ident => $call:expr) => {
+        match $wiring {
+            Wiring::Direct($card) => $call,
+            Wiring::Indirect($card) => $call,
+        }
+    };
 }
 
 impl AnyCard {
@@ -57,37 +52,27 @@ impl AnyCard {
         ensures room { result.room ≡ 0 }
         ensures faults { result.faults ≡ 0 }
     {
-        AnyCard {
-            model: model_of(m),
-            runs: false,
-            shape: None,
-            position: 0,
-            taken: Vec::new(alloc),
-            to_give: FramesToGive::new(alloc),
-            plan: FaultPlan::new(),
-            faults: 0,
+        let channel = Channel::new(alloc, model_of(m));
+        let wiring = match m {
+            pcm_base::Model::Indirect => Wiring::Indirect(IndirectCard::new(channel)),
+            pcm_base::Model::Basic
+            | pcm_base::Model::Duplex
+            | pcm_base::Model::Studio
+            | pcm_base::Model::NoPause
+            | pcm_base::Model::NoResume => Wiring::Direct(channel),
+        };
+        AnyCard { wiring }
+    }
+
+    // The channel behind the wiring.
+    fn channel(&self) -> &Channel
+        ensures { result.now ≡ self.now }
+    {
+        match &self.wiring {
+            Wiring::Direct(card) => card,
+            Wiring::Indirect(card) => card.inner(),
         }
     }
-}
-
-// Whether a card runs after a trigger.
-fn runs_after(t: Trigger) -> bool
-    ensures { result ≡ after_trigger t }
-{
-    match t {
-        Trigger::Start | Trigger::PauseRelease | Trigger::Resume => true,
-        Trigger::Stop | Trigger::PausePush | Trigger::Suspend => false,
-    }
-}
-
-// Where a card stands that has moved by these frames.
-fn advanced_by(shape: &Shape, position: u64, frames: &[u8]) -> u64
-    requires sound { IsSoundShape shape.now }
-    requires below { position < shape.now.buffer }
-    ensures after { result ≡ advanced shape.now position (count_of shape.now frames.now) }
-    ensures below { result < shape.now.buffer }
-{
-    (position + frames.len() as u64 / shape.frame_bytes) % shape.buffer
 }
 
 impl Card for AnyCard {
@@ -98,75 +83,58 @@ impl Card for AnyCard {
     ghost faults = { λ c. c.faults };
 
     fn model(&self) -> &CardModel {
-        &self.model
+        self.channel().model()
     }
 
     fn trigger(&mut self, t: Trigger) -> Result<(), CardFailed> {
-        if self.plan.trips(t) {
-            self.faults = self.faults.saturating_add(1);
-            return Err(CardFailed);
-        }
-        self.runs = runs_after(t);
-        Ok(())
+        wired!(&mut self.wiring, card => card.trigger(t))
     }
 
     fn undo(&mut self, t: Trigger) {
-        self.runs = !runs_after(t);
+        wired!(&mut self.wiring, card => card.undo(t))
     }
 
     fn runs(&self) -> bool {
-        self.runs
+        self.channel().runs()
     }
 
     fn position(&self) -> u64 {
-        self.position
+        self.channel().position()
     }
 
     fn set_up(&mut self, shape: &Shape) {
-        self.shape = Some(*shape);
-        self.runs = false;
-        self.position = 0;
-        self.taken.clear();
-        self.to_give.clear();
+        wired!(&mut self.wiring, card => card.set_up(shape))
     }
 
     fn to_start(&mut self) {
-        self.position = 0;
+        wired!(&mut self.wiring, card => card.to_start())
     }
 
     fn reserve(&mut self, bytes: u64) -> Result<(), AllocError> {
-        self.taken.reserve(bytes as usize)
+        wired!(&mut self.wiring, card => card.reserve(bytes))
     }
 
     fn take(&mut self, frames: &[u8]) {
-        let shape = self.shape.unwrap();
-        self.position = advanced_by(&shape, self.position, frames);
-        self.taken.extend_from_slice(frames).unwrap();
+        wired!(&mut self.wiring, card => card.take(frames))
     }
 
     fn give_into(&mut self, out: &mut [u8]) {
-        let shape = self.shape.unwrap();
-        self.position = advanced_by(&shape, self.position, out);
-        self.to_give.give_into(out);
+        wired!(&mut self.wiring, card => card.give_into(out))
     }
 
     fn give(&mut self, frames: &[u8]) -> Result<(), AllocError> {
-        self.to_give.replace(frames)
+        wired!(&mut self.wiring, card => card.give(frames))
     }
 
     fn taken(&self) -> &[u8] {
-        &self.taken
+        self.channel().taken()
     }
 
     fn fail_at(&mut self, k: u64) -> Result<(), Errno> {
-        if !(1..=64).contains(&k) {
-            return Err(Errno::Einval);
-        }
-        self.plan.set(k);
-        Ok(())
+        wired!(&mut self.wiring, card => card.fail_at(k))
     }
 
     fn clear_plan(&mut self) {
-        self.plan.clear();
+        wired!(&mut self.wiring, card => card.clear_plan())
     }
 }

@@ -86,5 +86,6 @@ pub fn model_of(m: Model) -> CardModel
             can_resume: false,
             ..BASIC
         },
+        Model::Indirect => BASIC,
     }
 }

@@ -1,5 +1,7 @@
 // Worked examples.
 use super::*;
+use crate::channel::Channel;
+use indirect_card::IndirectCard;
 use pcm_base::{Card, CardFailed, CardModel, Dir, Errno, Model, Shape, Span, Trigger};
 use std::test::Fail;
 
@@ -55,6 +57,7 @@ fn each_model_has_its_row(rt: HostRuntime) {
     assert_eq!(rt; model_of(Model::Basic), basic);
     assert_eq!(rt; model_of(Model::Duplex), duplex);
     assert_eq!(rt; model_of(Model::Studio), studio);
+    assert_eq!(rt; model_of(Model::Indirect), basic);
     assert_eq!(rt;
         model_of(Model::NoPause),
         CardModel {
@@ -125,5 +128,47 @@ fn frames_are_taken_and_given(rt: HostRuntime) -> Result<(), Fail> {
     assert_eq!(rt; out, [0, 0]);
     card.to_start();
     assert_eq!(rt; card.position(), 0);
+    Ok(())
+}
+
+#[test]
+fn frames_pass_through_a_hardware_buffer(rt: HostRuntime) -> Result<(), Fail> {
+    let thirty_two_frames = Shape {
+        frame_bytes: 1,
+        channels: 1,
+        period: 8,
+        periods: 4,
+        buffer: 32,
+        boundary: 64,
+    };
+    let mut card = IndirectCard::new(Channel::new(rt.alloc(), model_of(Model::Indirect)));
+    card.set_up(&thirty_two_frames);
+    assert_eq!(rt; card.trigger(Trigger::Start), Ok(()));
+    card.reserve(20)?;
+    card.take(&[
+        0x00, 0x01, 0x02, 0x03, 0x04, 0x05, 0x06, 0x07, 0x08, 0x09, 0x0a, 0x0b, 0x0c, 0x0d, 0x0e,
+        0x0f, 0x10, 0x11, 0x12, 0x13,
+    ]);
+    assert_eq!(rt; card.frame_at(0), [0x10].as_slice());
+    assert_eq!(rt; card.frame_at(3), [0x13].as_slice());
+    assert_eq!(rt; card.frame_at(4), [0x04].as_slice());
+    assert_eq!(rt; card.passed(), 20);
+    assert_eq!(rt; card.position(), 20);
+    Ok(())
+}
+
+#[test]
+fn a_card_of_the_indirect_model_takes_what_a_direct_one_does(rt: HostRuntime) -> Result<(), Fail> {
+    let mut card = AnyCard::new(rt.alloc(), Model::Indirect, Dir::Playback);
+    card.set_up(&FOUR_FRAMES);
+    card.reserve(3)?;
+    card.take(&[1, 2, 3]);
+    assert_eq!(rt; card.position(), 3);
+    assert_eq!(rt; card.taken(), [1, 2, 3].as_slice());
+
+    let mut out = [9; 2];
+    card.give(&[7])?;
+    card.give_into(&mut out);
+    assert_eq!(rt; out, [7, 0]);
     Ok(())
 }

@@ -1,4 +1,4 @@
-use Rattle.card_emul.proofs.any_card.AnyCardCard.give_into.Goals as goal
+use Rattle.card_emul.proofs.channel.ChannelCard.give_into.Goals as goal
 
 pub advanced_by-self-inside-requires-clause-sound :
     goal.advanced_by-self-inside-requires-clause-sound

@@ -1,0 +1,3 @@
+pub mod Hardware
+pub mod Buffer
+pub mod IndirectCard
