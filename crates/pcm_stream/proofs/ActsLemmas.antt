@@ -55,6 +55,7 @@ unset-stands d state.Xrun h = absurd (cc)
 unset-stands d state.Draining h = absurd (cc)
 unset-stands d state.Paused h = absurd (cc)
 unset-stands d state.Suspended h = absurd (cc)
+unset-stands d state.Disconnected h = refl
 
 -- the state says whether the card runs
 pub Sound-runs : (s : Stream) → Sound s → s.card.runs ≡ runs_in s.dir s.state
@@ -127,6 +128,7 @@ prepare-stands dir.Playback state.Draining h = absurd (cc)
 prepare-stands dir.Capture state.Draining h = refl
 prepare-stands d state.Paused h = refl
 prepare-stands d state.Suspended h = refl
+prepare-stands d state.Disconnected h = absurd (cc)
 
 prepare-runs : (s : Stream) (first : Bool) → Sound s → pre s (act.Prepare first) ≡ None → false ≡ runs_by (only_if (first && s.card.runs) trigger.Stop) s.card.runs
 prepare-runs s true h n = sym (only-stops s.card.runs trigger.Stop refl)
@@ -134,7 +136,7 @@ prepare-runs s false h n = sym (Sound-runs s h ∙ prepare-stands s.dir s.state 
 
 -- a stop, a resume and a drain, by what decides them
 abbrev stop_in : State → State → Stream → Stream
-stop_in t u s = elim u as (λ _. Stream) [ state.Opened ↦ s | state.Closed ↦ s | _ ↦ set_runs false (record s { state = t; kept = None }) ]
+stop_in t u s = elim u as (λ _. Stream) [ state.Opened ↦ s | state.Closed ↦ s | state.Disconnected ↦ s | _ ↦ set_runs false (record s { state = t; kept = None }) ]
 
 abbrev resume_in : Option State → Stream → Stream
 resume_in k s = elim k as (λ _. Stream) [ None ↦ s | Some t ↦ set_runs (runs_in s.dir t) (record s { state = t; kept = None }) ]
@@ -169,6 +171,7 @@ stop-runs t state.Xrun s h = refl
 stop-runs t state.Draining s h = refl
 stop-runs t state.Paused s h = refl
 stop-runs t state.Suspended s h = refl
+stop-runs t state.Disconnected s h = h
 
 resume-runs : (k : Option State) (s : Stream) → s.card.runs ≡ false → (resume_in k s).card.runs ≡ runs_by (only_if (ran s.dir k) trigger.Resume) s.card.runs
 resume-runs None s h = refl
@@ -193,6 +196,7 @@ drain-runs dir.Playback state.Xrun s = refl
 drain-runs dir.Playback state.Draining s = refl
 drain-runs dir.Playback state.Paused s = refl
 drain-runs dir.Playback state.Suspended s = refl
+drain-runs dir.Playback state.Disconnected s = refl
 drain-runs dir.Capture state.Closed s = refl
 drain-runs dir.Capture state.Opened s = refl
 drain-runs dir.Capture state.Setup s = refl
@@ -202,6 +206,7 @@ drain-runs dir.Capture state.Xrun s = refl
 drain-runs dir.Capture state.Draining s = refl
 drain-runs dir.Capture state.Paused s = refl
 drain-runs dir.Capture state.Suspended s = refl
+drain-runs dir.Capture state.Disconnected s = refl
 
 -- whether the card runs after an act, by what was asked of it
 pub done-runs : (a : Act) (s : Stream) → Sound s → pre s a ≡ None → (done a s).card.runs ≡ runs_by (trigger_for a s) s.card.runs
@@ -319,6 +324,7 @@ stop-plan t state.Xrun s = refl
 stop-plan t state.Draining s = refl
 stop-plan t state.Paused s = refl
 stop-plan t state.Suspended s = refl
+stop-plan t state.Disconnected s = refl
 
 resume-plan : (k : Option State) (s : Stream) → (resume_in k s).card.plan ≡ s.card.plan
 resume-plan None s = refl
@@ -342,6 +348,7 @@ drain-plan dir.Playback state.Xrun s = refl
 drain-plan dir.Playback state.Draining s = refl
 drain-plan dir.Playback state.Paused s = refl
 drain-plan dir.Playback state.Suspended s = refl
+drain-plan dir.Playback state.Disconnected s = refl
 drain-plan dir.Capture state.Closed s = refl
 drain-plan dir.Capture state.Opened s = refl
 drain-plan dir.Capture state.Setup s = refl
@@ -351,6 +358,7 @@ drain-plan dir.Capture state.Xrun s = refl
 drain-plan dir.Capture state.Draining s = refl
 drain-plan dir.Capture state.Paused s = refl
 drain-plan dir.Capture state.Suspended s = refl
+drain-plan dir.Capture state.Disconnected s = refl
 
 done-plan : (a : Act) (s : Stream) → (done a s).card.plan ≡ s.card.plan
 done-plan act.Start s = refl
@@ -454,21 +462,22 @@ lacks-else s r h high =
 
 -- ---- what a stop, a resume and a prepare show
 
-stop-set_up : (t u : State) (s : Stream) → (u ≡ state.Closed → ⊥) → (u ≡ state.Opened → ⊥) → turned s t None false s.card.plan ≡ stop_in t u s
-stop-set_up t state.Closed s e f = absurd (e refl)
-stop-set_up t state.Opened s e f = absurd (f refl)
-stop-set_up t state.Setup s e f = refl
-stop-set_up t state.Prepared s e f = refl
-stop-set_up t state.Running s e f = refl
-stop-set_up t state.Xrun s e f = refl
-stop-set_up t state.Draining s e f = refl
-stop-set_up t state.Paused s e f = refl
-stop-set_up t state.Suspended s e f = refl
+stop-set_up : (t u : State) (s : Stream) → (u ≡ state.Closed → ⊥) → (u ≡ state.Opened → ⊥) → (u ≡ state.Disconnected → ⊥) → turned s t None false s.card.plan ≡ stop_in t u s
+stop-set_up t state.Closed s e f g = absurd (e refl)
+stop-set_up t state.Opened s e f g = absurd (f refl)
+stop-set_up t state.Setup s e f g = refl
+stop-set_up t state.Prepared s e f g = refl
+stop-set_up t state.Running s e f g = refl
+stop-set_up t state.Xrun s e f g = refl
+stop-set_up t state.Draining s e f g = refl
+stop-set_up t state.Paused s e f g = refl
+stop-set_up t state.Suspended s e f g = refl
+stop-set_up t state.Disconnected s e f g = absurd (g refl)
 
 pub Shows-stopped : {C : Type 0} {g : Ghosts C} (a b : Substream C g) (s : Stream) (t : State) → IsLike a b → b.state ≡ t → b.kept ≡ None
-    → (a.state ≡ state.Closed → ⊥) → (a.state ≡ state.Opened → ⊥) → Shows a s → Shows b (stopped t s)
-Shows-stopped {C} {g} a b s t like et ek closed opened h =
-    let same : turned s t None false s.card.plan ≡ stopped t s = stop-set_up t a.state s closed opened ∙ ap (λ (u : State). stop_in t u s) h.state in
+    → (a.state ≡ state.Closed → ⊥) → (a.state ≡ state.Opened → ⊥) → (a.state ≡ state.Disconnected → ⊥) → Shows a s → Shows b (stopped t s)
+Shows-stopped {C} {g} a b s t like et ek closed opened gone h =
+    let same : turned s t None false s.card.plan ≡ stopped t s = stop-set_up t a.state s closed opened gone ∙ ap (λ (u : State). stop_in t u s) h.state in
     subst (λ (x : Stream). Shows {C = C} {g = g} b x) same (Shows-turned a b s t None false s.card.plan like et ek h)
 
 pub Shows-resumed : {C : Type 0} {g : Ghosts C} (a b : Substream C g) (s : Stream) (t : State) → IsLike a b → a.kept ≡ Some t → b.state ≡ t → b.kept ≡ None → Shows a s → Shows b (resumed s)

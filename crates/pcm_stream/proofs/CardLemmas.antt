@@ -257,7 +257,7 @@ fresh_again s = record (freed s) { mappings = 0; sleepers = [] }
 pub configured-sound : (c : Config) (s : Stream) → accepts s.model s.long_max c ≡ true → Sound (configured_by c s)
 configured-sound c s h =
     let k : SubId = record { 0 = 0 } in
-    let bare : IsBare (fresh_again s) = record { state = refl; setup = refl; stands = refl; unmapped = refl; taken = refl; to_give = refl; kept = refl } in
+    let bare : IsBare (fresh_again s) = record { state = refl; setup = refl; at = refl; moved = refl; stands = refl; unmapped = refl; taken = refl; to_give = refl; kept = refl } in
     let kept : KeepsSound k (event (call.HwParams c) (record { 0 = 0 }) false [] (fresh_again s)) =
     KeepsSound-event k (call.HwParams c) (record { 0 = 0 }) false [] (fresh_again s) (λ _. refl) bare in
     let sound : IsConfigured c (configured_by c (fresh_again s)) =

@@ -19,7 +19,7 @@ use Rattle.pcm_stream.proofs.SlotLemmas.{length-bytes_of}
 
 -- ---- frame after frame
 
-frames_of-take : (a k w : ℕ) (xs : List ℕ) → a * w ≤ k → frames_of a w (take k xs) ≡ frames_of a w xs
+pub frames_of-take : (a k w : ℕ) (xs : List ℕ) → a * w ≤ k → frames_of a w (take k xs) ≡ frames_of a w xs
 frames_of-take zero k w xs h = refl
 frames_of-take (suc a) k w xs h =
     let split : k ≡ w + (k - w) = omega arith in
@@ -28,12 +28,12 @@ frames_of-take (suc a) k w xs h =
     ∙ (ap (λ zs. take w xs ∷ frames_of a w zs) (drop-take w (k - w) xs)
     ∙ ap (λ fs. take w xs ∷ fs) (frames_of-take a (k - w) w (drop w xs) (omega arith))))
 
-take-frames_of : (a n w : ℕ) (xs : List ℕ) → a ≤ n → take a (frames_of n w xs) ≡ frames_of a w xs
+pub take-frames_of : (a n w : ℕ) (xs : List ℕ) → a ≤ n → take a (frames_of n w xs) ≡ frames_of a w xs
 take-frames_of zero n w xs h = refl
 take-frames_of (suc a) zero w xs h = absurd (omega arith)
 take-frames_of (suc a) (suc n) w xs h = ap (λ fs. take w xs ∷ fs) (take-frames_of a n w (drop w xs) (omega arith))
 
-drop-frames_of : (a n w : ℕ) (xs : List ℕ) → drop a (frames_of n w xs) ≡ frames_of (n - a) w (drop (a * w) xs)
+pub drop-frames_of : (a n w : ℕ) (xs : List ℕ) → drop a (frames_of n w xs) ≡ frames_of (n - a) w (drop (a * w) xs)
 drop-frames_of zero n w xs =
     let same : n ≡ n - 0 = omega arith in
     let none : 0 ≡ 0 * w = omega arith in
@@ -93,7 +93,7 @@ AreWide-planar n c v bytes h =
 
 -- ---- by layout
 
-length-by : (w : Layout) (s : Stream) (io : List ℕ) → length (frames_by w s io) ≡ length io / s.setup.frame_bytes
+pub length-by : (w : Layout) (s : Stream) (io : List ℕ) → length (frames_by w s io) ≡ length io / s.setup.frame_bytes
 length-by layout.Interleaved s io = length-frames_of (length io / s.setup.frame_bytes) s.setup.frame_bytes io
 length-by layout.Planar s io = length-frames_across (length io / s.setup.frame_bytes) (s.setup.frame_bytes / channels_of s.setup.config) _
 
@@ -106,7 +106,7 @@ length-part w s io first count b e h =
 planar-as : (a b c d : ℕ) (io : List ℕ) → a ≡ b → c ≡ d → planar_frames (length io / a) c (a / c) io ≡ planar_frames (length io / b) d (b / d) io
 planar-as a b c d io e k = ap (λ x. planar_frames (length io / x) c (x / c) io) e ∙ ap (λ x. planar_frames (length io / b) x (b / x) io) k
 
-channels-of : (r : Runtime) (s : Stream) → RunsFor r s → r.shape.channels ≡ channels_of s.setup.config
+pub channels-of : (r : Runtime) (s : Stream) → RunsFor r s → r.shape.channels ≡ channels_of s.setup.config
 channels-of r s h = ap (λ (x : Shape). x.channels) h.shape ∙ sym (ap channels_of h.config)
 
 -- a ring of the stream's sizes finds the frames of the stream
@@ -119,7 +119,7 @@ pub interleaved-by : (r : Runtime) (s : Stream) (io : List ℕ) → RunsFor r s 
 interleaved-by r s io h = ap (λ x. frames_of (length io / x) x io) (sym h.frame_bytes)
 
 -- they have as many bytes as a frame of the configuration
-AreWide-by : (w : Layout) (r : Runtime) (s : Stream) (io : List ℕ) → RunsFor r s → AreWide r.shape.frame_bytes (frames_by w s io)
+pub AreWide-by : (w : Layout) (r : Runtime) (s : Stream) (io : List ℕ) → RunsFor r s → AreWide r.shape.frame_bytes (frames_by w s io)
 AreWide-by layout.Interleaved r s io h =
     let b : ℕ = r.shape.frame_bytes in
     subst (λ (x : List Frame). AreWide b x) (interleaved-by r s io h)

@@ -6,3 +6,16 @@ pub mod ActsLemmas
 pub mod LayoutLemmas
 pub mod CardLemmas
 pub mod ParamsLemmas
+pub mod PartLemmas
+pub mod PointerLemmas
+pub mod Walk
+pub mod FitLemmas
+pub mod IdleLemmas
+pub mod ReachedLemmas
+pub mod BehindLemmas
+pub mod BehindRuns
+pub mod BehindReads
+pub mod AheadLemmas
+pub mod AheadWrites
+pub mod AheadRuns
+pub mod MemberLemmas

@@ -5,3 +5,8 @@ pub mod Triggers
 pub mod Moving
 pub mod SetUp
 pub mod StandsFor
+pub mod Buffer
+pub mod Mappings
+pub mod KeepingUp
+pub mod Members
+pub mod MembersStand

@@ -1,6 +1,6 @@
 -- The stream that a substream stands for.
-use Rattle.std.specs.Prelude.{◌≡◌, ◌%◌, ℕ, Result, Ok, Err}
-use Rattle.std.specs.Option.{ForSome, ForNone, option_map}
+use Rattle.std.specs.Prelude.{◌≡◌, ◌%◌, ℕ, Bool, Result, Ok, Err}
+use Rattle.std.specs.Option.{ForSome, ForNone, is_some, option_map}
 use Rattle.std.specs.declared.option.Option.{Option}
 use Rattle.std.specs.declared.option.Option.TheVariants.{Some, None}
 use Rattle.pcm_base.specs.declared.act.Act.{Act}
@@ -26,6 +26,10 @@ card_of {C} {g} sub = g.facts sub.card
 
 abbrev pub faults_of : {C : Type 0} {g : Ghosts C} → Substream C g → ℕ
 faults_of {C} {g} sub = g.faults sub.card
+
+-- whether its card tells the fault plan
+abbrev pub tells_plan : {C : Type 0} {g : Ghosts C} → Substream C g → Bool
+tells_plan {C} {g} sub = is_some (g.facts sub.card).plan
 
 -- the sizes of a substream's configuration, where it has one
 abbrev pub shape_in : {C : Type 0} {g : Ghosts C} → Substream C g → Option Shape

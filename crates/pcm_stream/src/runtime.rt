@@ -48,6 +48,7 @@ pub struct Runtime {
     ghost shown: { ptr.hw < shape.boundary },
     ghost below: { appl < shape.boundary },
     ghost near: { filled ≤ shape.buffer },
+    ghost few: { mappings ≤ 65535 },
 }
 
 impl Runtime {

@@ -1,12 +1,14 @@
 // A substream: who it is and where it stands.
-ghost use Rattle.std.specs.Prelude.{◌≡◌, ◌<◌, ◌≤◌, ◌-◌, ◌%◌, ◌^◌, [], true, false, None, Some, length, min, OnOk, MatchResult, IfErr, IfSome, IfNone};
+ghost use Rattle.std.specs.Prelude.{◌≡◌, ◌≢◌, ◌<◌, ◌≤◌, ◌-◌, ◌%◌, ◌^◌, [], true, false, None, Some, length, min, IsSome, OnOk, MatchResult, IfErr, IfSome, IfNone};
 ghost use Rattle.std.specs.Option.{ForSome, ForNone, option_copied, option_map};
 ghost use Rattle.pcm_base.specs.model.Frame.{bytes_of};
 ghost use Rattle.pcm_base.specs.model.Stream.{Stream, fresh, no_plan};
 
 mod acts;
+mod buffer;
 mod moves;
 mod params;
+mod pointers;
 
 use crate::runtime::Runtime;
 use hw_params::check;
@@ -60,9 +62,10 @@ impl<C: Card> Substream<C> {
     ghost use Rattle.pcm_base.specs.declared.state.Errno.{Errno as ErrnoOf};
     ghost use Rattle.pcm_base.specs.model.Allowed.{accepts, shape_of};
     ghost use Rattle.pcm_base.specs.model.Words.{is_closed};
+    ghost use Rattle.pcm_stream.specs.Mappings.{mappings_in};
     ghost use Rattle.pcm_stream.specs.Runs.{IsNewRuntime};
     ghost use Rattle.pcm_stream.specs.SetUp.{change_refusal, hw_refusal, configured_by};
-    ghost use Rattle.pcm_stream.specs.StandsFor.{StandsFor, IsShapeOf, card_of, faults_of, shape_in};
+    ghost use Rattle.pcm_stream.specs.StandsFor.{StandsFor, IsShapeOf, card_of, faults_of, shape_in, tells_plan};
 
     /// A substream that no client has opened, over a card that stands, has no frames taken and none to give, and has no
     /// fault planned. `long_max` is the LONG_MAX of the session, at most 2^36 - 1. Its buffer will be taken from `alloc`.
@@ -74,6 +77,7 @@ impl<C: Card> Substream<C> {
         requires plan { ForSome (C.facts card).plan (λ plan. plan ≡ no_plan) }
         ensures fresh { StandsFor result (fresh (C.facts card).model dir long_max) }
         ensures card { card_of result ≡ C.facts card }
+        ensures faults { faults_of result ≡ C.faults card }
     {
         Substream {
             alloc,
@@ -103,6 +107,7 @@ impl<C: Card> Substream<C> {
     /// The card. What it has taken are whole frames, at most 67,108,864 bytes.
     pub fn card(&self) -> &C
         ensures card { C.facts result.now ≡ card_of self.now }
+        ensures faults { C.faults result.now ≡ faults_of self.now }
         ensures taken { (s : Stream) → StandsFor self.now s → (C.facts result.now).taken ≡ bytes_of s.card.taken }
         ensures whole { (s : Stream) → StandsFor self.now s → ForSome s.setup.config (λ _. length (C.facts result.now).taken % s.setup.frame_bytes ≡ 0) }
         ensures limit { length (C.facts result.now).taken ≤ 67108864 }
@@ -114,6 +119,7 @@ impl<C: Card> Substream<C> {
     pub fn page(&self) -> Page
         ensures page { (s : Stream) → StandsFor self.now s → result ≡ page_of s }
         ensures bound { result.avail < 2 ^ 36 }
+        ensures hw { result.hw < 2 ^ 36 }
     {
         match &self.runtime {
             None => Page {
@@ -134,6 +140,7 @@ impl<C: Card> Substream<C> {
     /// The sizes of the configuration, where there is one.
     pub fn shape(&self) -> Option<&Shape>
         ensures value { option_copied result ≡ shape_in self.now }
+        ensures exact { (s : Stream) → StandsFor self.now s → shape_in self.now ≡ option_map (λ c. shape_of c s.long_max) s.setup.config }
         ensures sound { IfSome (shape_in self.now) IsSoundShape }
         ensures model { (s : Stream) → StandsFor self.now s → IfSome (shape_in self.now) (IsShapeOf s) }
         ensures none { (s : Stream) → StandsFor self.now s → IfNone (shape_in self.now) (s.setup.config ≡ None) }
@@ -179,7 +186,10 @@ impl<C: Card> Substream<C> {
     pub fn open_sub(&mut self) -> Result<(), Errno>
         ensures ok { (s : Stream) → StandsFor self.old s → OnOk result ((is_closed s.state ≡ true) × StandsFor self.new (record s { state = State.Opened })) }
         ensures busy { (s : Stream) → StandsFor self.old s → IfErr result (λ e. (e ≡ Errno.Ebusy) × (is_closed s.state ≡ false) × StandsFor self.new s) }
+        ensures card { card_of self.new ≡ card_of self.old }
+        ensures shape { shape_in self.new ≡ shape_in self.old }
         ensures faults { faults_of self.new ≡ faults_of self.old }
+        ensures tells { tells_plan self.new ≡ tells_plan self.old }
     {
         match self.state {
             State::Closed => {
@@ -203,6 +213,7 @@ impl<C: Card> Substream<C> {
         ensures memory { (s : Stream) → StandsFor self.old s → result ≡ Err HwRefusal.Memory
             → (hw_refusal busy s ≡ None) × (accepts s.model s.long_max config.now ≡ true) × StandsFor self.new s }
         ensures faults { faults_of self.new ≡ faults_of self.old }
+        ensures tells { tells_plan self.new ≡ tells_plan self.old }
     {
         if let Err(e) = self.change_allowed(CallKind::HwParams, busy) {
             return Err(HwRefusal::Errno(e));
@@ -239,7 +250,10 @@ impl<C: Card> Substream<C> {
 
     /// The mappings; none without a configuration.
     pub fn mappings(&self) -> u64
-        ensures { (s : Stream) → StandsFor self.now s → result ≡ s.mappings }
+        ensures model { (s : Stream) → StandsFor self.now s → result ≡ s.mappings }
+        ensures value { result ≡ mappings_in self.now }
+        ensures shape { result ≢ 0 → IsSome (shape_in self.now) }
+        ensures bound { result ≤ 65535 }
     {
         match &self.runtime {
             None => 0,
@@ -251,6 +265,7 @@ impl<C: Card> Substream<C> {
     fn free(&mut self)
         ensures model { (s : Stream) → StandsFor self.old s → s.mappings ≡ 0 → StandsFor self.new (freed s) }
         ensures faults { faults_of self.new ≡ faults_of self.old }
+        ensures tells { tells_plan self.new ≡ tells_plan self.old }
     {
         if let Some(runtime) = &self.runtime {
             self.card.set_up(&runtime.shape);
@@ -267,6 +282,7 @@ impl<C: Card> Substream<C> {
         ensures model { (s : Stream) (c : Configuration) → StandsFor self.old s → accepts s.model s.long_max c ≡ true → shape.now ≡ shape_of c s.long_max → s.mappings ≡ 0
             → IsNewRuntime c shape.now runtime → StandsFor self.new (configured_by c s) }
         ensures faults { faults_of self.new ≡ faults_of self.old }
+        ensures tells { tells_plan self.new ≡ tells_plan self.old }
     {
         self.card.set_up(shape);
         self.runtime = Some(runtime);

@@ -1,6 +1,6 @@
 // Acts on one member of a group: what it says to them, what its card is asked, and what becomes of it (the pre, do, undo
 // and post functions of `struct action_ops` in `pcm_native.c`).
-ghost use Rattle.std.specs.Prelude.{◌≡◌, ◌&&◌, not, true, None, Some, IsSome, OnOk, OnErr, MatchResult, is_err, nat_le, nat_lt};
+ghost use Rattle.std.specs.Prelude.{◌≡◌, ◌&&◌, not, true, None, Some, IsErr, IsSome, OnOk, OnErr, MatchResult, is_err, nat_le, nat_lt};
 ghost use Rattle.std.specs.Option.{ForSome};
 ghost use Rattle.pcm_base.specs.Causes.{HasCause};
 ghost use Rattle.pcm_base.specs.declared.act.Vote.TheVariants.{Yes};
@@ -9,7 +9,7 @@ ghost use Rattle.pcm_base.specs.declared.act.Act.TheVariants.{Start, Prepare, Re
 ghost use Rattle.pcm_base.specs.declared.state.Dir.TheVariants.{Playback, Capture};
 ghost use Rattle.pcm_base.specs.declared.state.Errno.TheVariants.{Enosys};
 ghost use Rattle.pcm_base.specs.model.Stream.{Stream, all_at, avail};
-ghost use Rattle.pcm_base.specs.model.Acts.{pre, asked, done, after, trips, drained, stopped, resumed, refuses_unopened};
+ghost use Rattle.pcm_base.specs.model.Acts.{pre, asks, asked, done, after, trips, drained, stopped, resumed, refuses_unopened};
 ghost use Rattle.pcm_base.specs.model.Permit.{permit as permit_table};
 ghost use Rattle.pcm_base.specs.model.Sound.{IsPlaced, Sound, is_set_up, is_stop};
 ghost use Rattle.pcm_base.specs.model.Update.{fill};
@@ -47,13 +47,13 @@ fn runs_in_state(dir: Dir, state: State) -> bool
     }
 }
 
-// Only OPEN and CLOSED refuse.
+// Only CLOSED, OPEN and DISCONNECTED refuse.
 fn vote_unopened(state: State) -> Result<(), Errno>
     ensures { MatchResult result (λ _. refuses_unopened state ≡ None) (λ e. refuses_unopened state ≡ Some e) }
 {
     match state {
         State::Closed => Err(Errno::Enxio),
-        State::Opened => Err(Errno::Ebadfd),
+        State::Opened | State::Disconnected => Err(Errno::Ebadfd),
         _ => Ok(()),
     }
 }
@@ -70,7 +70,7 @@ fn vote_able(able: bool, kind: CallKind, state: State, dir: Dir) -> Result<(), E
 }
 
 impl<C: Card> Substream<C> {
-    ghost use Rattle.pcm_stream.specs.StandsFor.{StandsFor, Shows, HasDone, card_of, faults_of, shape_in};
+    ghost use Rattle.pcm_stream.specs.StandsFor.{StandsFor, Shows, HasDone, card_of, faults_of, shape_in, tells_plan};
 
     /// What this member says to an act: its errno where it refuses, the causes in order (`snd_pcm_pre_start` and its
     /// kin).
@@ -232,8 +232,10 @@ impl<C: Card> Substream<C> {
         ensures done { (s : Stream) → StandsFor self.old s → OnOk result (HasDone act self.new s) }
         ensures failed { (s : Stream) → StandsFor self.old s → OnErr result (StandsFor self.new (asked s act)) }
         ensures trips { (s : Stream) → StandsFor self.old s → IsSome (card_of self.old).plan → is_err result ≡ trips s act }
+        ensures asked { (s : Stream) → StandsFor self.old s → IsErr result → asks s act ≡ true }
         ensures cause { HasCause (faults_of self.old) (faults_of self.new) result }
         ensures shape { shape_in self.new ≡ shape_in self.old }
+        ensures tells { tells_plan self.new ≡ tells_plan self.old }
     {
         match self.trigger_for(act) {
             Some(trigger) => self.card.trigger(trigger),
@@ -246,6 +248,7 @@ impl<C: Card> Substream<C> {
         ensures undone { (s : Stream) → HasDone act self.old s → StandsFor self.new (asked s act) }
         ensures faults { faults_of self.new ≡ faults_of self.old }
         ensures shape { shape_in self.new ≡ shape_in self.old }
+        ensures tells { tells_plan self.new ≡ tells_plan self.old }
     {
         if let Some(trigger) = self.trigger_for(act) {
             if self.card.runs() != self.ran() {
@@ -261,6 +264,7 @@ impl<C: Card> Substream<C> {
         ensures done { (s : Stream) → HasDone act self.old s → StandsFor self.new (after act Yes Done s) }
         ensures faults { faults_of self.new ≡ faults_of self.old }
         ensures shape { shape_in self.new ≡ shape_in self.old }
+        ensures tells { tells_plan self.new ≡ tells_plan self.old }
     {
         match act {
             Act::Start => {
@@ -281,7 +285,7 @@ impl<C: Card> Substream<C> {
         }
     }
 
-    // A member that no client has configured stays.
+    // A member that no client has configured, or whose card is gone, stays.
     fn post_stop(&mut self, state: State)
         ensures shows { (s : Stream) → Shows self.old s → Shows self.new (stopped state s) }
         ensures card { card_of self.new ≡ card_of self.old }
@@ -289,7 +293,7 @@ impl<C: Card> Substream<C> {
         ensures shape { shape_in self.new ≡ shape_in self.old }
     {
         match self.state {
-            State::Opened | State::Closed => {}
+            State::Opened | State::Closed | State::Disconnected => {}
             _ => {
                 self.state = state;
                 self.kept = None;

@@ -27,7 +27,7 @@ fn found_in(state: State, buffer: u64, stop_threshold: u64, avail: u64) -> Updat
 }
 
 impl<C: Card> Substream<C> {
-    ghost use Rattle.pcm_stream.specs.StandsFor.{StandsFor, faults_of, shape_in, dma_reply};
+    ghost use Rattle.pcm_stream.specs.StandsFor.{StandsFor, faults_of, shape_in, tells_plan, dma_reply};
     ghost use Rattle.pcm_stream.specs.Moving.{CanMove};
 
     /// Reports where the card stands, puts silence ahead of a playback client, and looks whether that ends a drain, which
@@ -37,6 +37,7 @@ impl<C: Card> Substream<C> {
         ensures model { (s : Stream) → StandsFor self.old s → StandsFor self.new (update_of s).stream }
         ensures faults { faults_of self.new ≡ faults_of self.old }
         ensures shape { shape_in self.new ≡ shape_in self.old }
+        ensures tells { tells_plan self.new ≡ tells_plan self.old }
     {
         if !self.card.runs() {
             return Updated::Nothing;
@@ -56,6 +57,7 @@ impl<C: Card> Substream<C> {
         ensures model { (s : Stream) → StandsFor self.old s → s.card.runs ≡ true → StandsFor self.new (moved_up s) }
         ensures faults { faults_of self.new ≡ faults_of self.old }
         ensures shape { shape_in self.new ≡ shape_in self.old }
+        ensures tells { tells_plan self.new ≡ tells_plan self.old }
     {
         let Some(runtime) = &mut self.runtime else {
             return;
@@ -87,6 +89,7 @@ impl<C: Card> Substream<C> {
         ensures model { (s : Stream) → StandsFor self.old s → found_of s ≡ DrainDone → StandsFor self.new (settled DrainDone s) }
         ensures faults { faults_of self.new ≡ faults_of self.old }
         ensures shape { shape_in self.new ≡ shape_in self.old }
+        ensures tells { tells_plan self.new ≡ tells_plan self.old }
     {
         self.state = State::Setup;
         let _ = self.card.trigger(Trigger::Stop);
@@ -103,6 +106,7 @@ impl<C: Card> Substream<C> {
         ensures put { (s : Stream) → StandsFor self.old s → count ≤ avail s → StandsFor self.new (put_next (take count (drop first (frames_by layout s io.now))) s) }
         ensures shape { shape_in self.new ≡ shape_in self.old }
         ensures faults { faults_of self.new ≡ faults_of self.old }
+        ensures tells { tells_plan self.new ≡ tells_plan self.old }
     {
         if let Some(runtime) = &mut self.runtime {
             runtime.put(layout, io, first, count);
@@ -119,6 +123,7 @@ impl<C: Card> Substream<C> {
         ensures memory { (s : Stream) → StandsFor self.old s → result ≡ Err DmaRefusal.Memory → StandsFor self.new s }
         ensures faults { faults_of self.new ≡ faults_of self.old }
         ensures shape { shape_in self.new ≡ shape_in self.old }
+        ensures tells { tells_plan self.new ≡ tells_plan self.old }
     {
         if !self.card.runs() {
             return Err(DmaRefusal::Idle);
@@ -147,6 +152,7 @@ impl<C: Card> Substream<C> {
         ensures memory { (s : Stream) → StandsFor self.old s → result ≡ Err DmaRefusal.Memory → StandsFor self.new s }
         ensures faults { faults_of self.new ≡ faults_of self.old }
         ensures shape { shape_in self.new ≡ shape_in self.old }
+        ensures tells { tells_plan self.new ≡ tells_plan self.old }
     {
         let Some(runtime) = &mut self.runtime else {
             return Err(DmaRefusal::Idle);
@@ -171,6 +177,7 @@ impl<C: Card> Substream<C> {
         ensures moved { (s : Stream) → StandsFor self.old s → CanMove Capture n s → StandsFor self.new (move n s).stream }
         ensures faults { faults_of self.new ≡ faults_of self.old }
         ensures shape { shape_in self.new ≡ shape_in self.old }
+        ensures tells { tells_plan self.new ≡ tells_plan self.old }
     {
         let Some(runtime) = &mut self.runtime else {
             return;

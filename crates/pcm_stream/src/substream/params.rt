@@ -1,13 +1,18 @@
 // The other calls that set a substream up, and take it down again.
-ghost use Rattle.std.specs.Prelude.{◌≡◌, ◌≤◌, ◌↔◌, true, false, None, Some, IsOk, OnOk, OnErr, IfErr};
-ghost use Rattle.pcm_base.specs.model.Events.{closed, freed, plan_set, set_sw};
+ghost use Rattle.std.specs.Prelude.{◌≡◌, ◌≤◌, ◌↔◌, true, false, None, Some, IsOk, IsSome, OnOk, OnErr, IfErr};
+ghost use Rattle.std.specs.Option.{ForSome};
+ghost use Rattle.pcm_base.specs.Shape.{AreFrames};
+ghost use Rattle.pcm_base.specs.model.Events.{closed, freed, plan_set, set_mappings, set_sw, unplugged};
 ghost use Rattle.pcm_base.specs.model.Software.{refuses_sw};
 ghost use Rattle.pcm_base.specs.model.Stream.{Stream};
+ghost use Rattle.pcm_base.specs.model.Transfer.{frames_in};
+ghost use Rattle.pcm_stream.specs.Buffer.{with_to_give};
 
 use super::Substream;
 use crate::runtime::Runtime;
 use pcm_base::{CallKind, Card, Errno, State, SwParams};
 use state_table::permit;
+use std::alloc::AllocError;
 use sw_params::check_sw;
 
 impl Runtime {
@@ -24,11 +29,20 @@ impl Runtime {
         self.sw = *sw;
         Ok(())
     }
+
+    // Sets the count of mappings.
+    fn set_mappings(&mut self, n: u64)
+        requires few { n ≤ 65535 }
+        ensures shape { self.new.shape ≡ self.old.shape }
+        ensures set { (s : Stream) → RunsFor self.old s → RunsFor self.new (set_mappings n s) }
+    {
+        self.mappings = n;
+    }
 }
 
 impl<C: Card> Substream<C> {
     ghost use Rattle.pcm_stream.specs.SetUp.{free_refusal, sw_refusal};
-    ghost use Rattle.pcm_stream.specs.StandsFor.{StandsFor, faults_of, shape_in};
+    ghost use Rattle.pcm_stream.specs.StandsFor.{StandsFor, card_of, faults_of, shape_in, tells_plan};
 
     /// Sets the software parameters (`snd_pcm_sw_params`). Refused by the error table, then EINVAL where `check_sw` refuses
     /// them, with nothing changed.
@@ -37,6 +51,7 @@ impl<C: Card> Substream<C> {
         ensures refused { (s : Stream) → StandsFor self.old s → IfErr result (λ e. (sw_refusal sw.now s ≡ Some e) × StandsFor self.new s) }
         ensures shape { shape_in self.new ≡ shape_in self.old }
         ensures faults { faults_of self.new ≡ faults_of self.old }
+        ensures tells { tells_plan self.new ≡ tells_plan self.old }
     {
         permit(CallKind::SwParams, self.state, self.dir)?;
         match &mut self.runtime {
@@ -50,7 +65,9 @@ impl<C: Card> Substream<C> {
     pub fn hw_free(&mut self, busy: bool) -> Result<(), Errno>
         ensures ok { (s : Stream) → StandsFor self.old s → OnOk result ((free_refusal busy s ≡ None) × StandsFor self.new (freed s)) }
         ensures refused { (s : Stream) → StandsFor self.old s → IfErr result (λ e. (free_refusal busy s ≡ Some e) × StandsFor self.new s) }
+        ensures shape { OnErr result (shape_in self.new ≡ shape_in self.old) }
         ensures faults { faults_of self.new ≡ faults_of self.old }
+        ensures tells { tells_plan self.new ≡ tells_plan self.old }
     {
         self.change_allowed(CallKind::HwFree, busy)?;
         self.free();
@@ -65,8 +82,50 @@ impl<C: Card> Substream<C> {
         ensures einval { (s : Stream) → StandsFor self.old s → IfErr result (λ e. (e ≡ Errno.Einval) × StandsFor self.new s) }
         ensures shape { shape_in self.new ≡ shape_in self.old }
         ensures faults { faults_of self.new ≡ faults_of self.old }
+        ensures tells { tells_plan self.new ≡ tells_plan self.old }
     {
         self.card.fail_at(k)
+    }
+
+    /// Replaces the frames that the card has to give, which lie one after another. An error changes nothing. This project's
+    /// own.
+    pub fn give(&mut self, frames: &[u8]) -> Result<(), AllocError>
+        requires shape { IsSome (shape_in self.old) }
+        requires whole { ForSome (shape_in self.old) (λ s. AreFrames s frames.now) }
+        ensures given { (s : Stream) → StandsFor self.old s → OnOk result (StandsFor self.new (with_to_give (frames_in s frames.now) s)) }
+        ensures memory { (s : Stream) → StandsFor self.old s → OnErr result (StandsFor self.new s) }
+        ensures shape { shape_in self.new ≡ shape_in self.old }
+        ensures faults { faults_of self.new ≡ faults_of self.old }
+        ensures tells { tells_plan self.new ≡ tells_plan self.old }
+    {
+        self.card.give(frames)
+    }
+
+    /// Sets the count of mappings, at most 65,535.
+    pub fn set_mappings(&mut self, n: u64)
+        requires shape { IsSome (shape_in self.old) }
+        requires few { n ≤ 65535 }
+        ensures set { (s : Stream) → StandsFor self.old s → StandsFor self.new (set_mappings n s) }
+        ensures shape { shape_in self.new ≡ shape_in self.old }
+        ensures faults { faults_of self.new ≡ faults_of self.old }
+        ensures tells { tells_plan self.new ≡ tells_plan self.old }
+    {
+        if let Some(runtime) = &mut self.runtime {
+            runtime.set_mappings(n);
+        }
+    }
+
+    /// A card that stands is gone: the substream becomes DISCONNECTED, and its configuration, buffer, positions and mappings
+    /// stay (`snd_pcm_dev_disconnect`; the rules are this project's own).
+    pub fn unplug(&mut self)
+        ensures unplugged { (s : Stream) → StandsFor self.old s → s.card.runs ≡ false → StandsFor self.new (unplugged s) }
+        ensures shape { shape_in self.new ≡ shape_in self.old }
+        ensures card { card_of self.new ≡ card_of self.old }
+        ensures faults { faults_of self.new ≡ faults_of self.old }
+        ensures tells { tells_plan self.new ≡ tells_plan self.old }
+    {
+        self.state = State::Disconnected;
+        self.kept = None;
     }
 
     /// Closes the substream: the configuration goes, the card stops, and its lists and its fault plan are emptied
@@ -75,6 +134,7 @@ impl<C: Card> Substream<C> {
         requires unmapped { (s : Stream) → StandsFor self.old s → s.mappings ≡ 0 }
         ensures closed { (s : Stream) → StandsFor self.old s → StandsFor self.new (closed s) }
         ensures faults { faults_of self.new ≡ faults_of self.old }
+        ensures tells { tells_plan self.new ≡ tells_plan self.old }
     {
         self.free();
         self.state = State::Closed;

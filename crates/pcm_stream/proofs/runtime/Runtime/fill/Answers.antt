@@ -18,6 +18,7 @@ invariant_of-self c = record {
   shown = c.args.self.now.shown;
   below = c.args.self.now.below;
   near = c.in-Some.ensures.within c.args.self.now.accepted;
+  few = c.args.self.now.few;
 }
 
 pub returns-in-Some-clause-filled : goal.returns-in-Some-clause-filled

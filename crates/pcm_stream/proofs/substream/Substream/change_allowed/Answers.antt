@@ -22,16 +22,16 @@ returns-in_err-permit g c s h =
 pub returns-then-mappings-gt0 : goal.returns-then-mappings-gt0
 returns-then-mappings-gt0 g c s h =
     change-refusal c.args.kind c.args.busy s None (table-none c.args.kind c.args.self.now s h.shows c.in_ok-permit.ensures)
-    ∙ mapped c.mappings.result s.mappings c.args.busy (c.mappings.ensures s h) c.if-mappings-gt0.true
+    ∙ mapped c.mappings.result s.mappings c.args.busy (c.mappings.ensures.model s h) c.if-mappings-gt0.true
 
 pub returns-then-busy : goal.returns-then-busy
 returns-then-busy g c s h =
     change-refusal c.args.kind c.args.busy s None (table-none c.args.kind c.args.self.now s h.shows c.in_ok-permit.ensures)
-    ∙ unmapped c.mappings.result s.mappings c.args.busy (c.mappings.ensures s h) c.if-mappings-gt0.false
+    ∙ unmapped c.mappings.result s.mappings c.args.busy (c.mappings.ensures.model s h) c.if-mappings-gt0.false
     ∙ ap (λ b. when b errno.Ebusy) c.if-busy.true
 
 pub returns : goal.returns
 returns g c s h =
     change-refusal c.args.kind c.args.busy s None (table-none c.args.kind c.args.self.now s h.shows c.in_ok-permit.ensures)
-    ∙ unmapped c.mappings.result s.mappings c.args.busy (c.mappings.ensures s h) c.if-mappings-gt0.false
+    ∙ unmapped c.mappings.result s.mappings c.args.busy (c.mappings.ensures.model s h) c.if-mappings-gt0.false
     ∙ ap (λ b. when b errno.Ebusy) c.if-busy.false

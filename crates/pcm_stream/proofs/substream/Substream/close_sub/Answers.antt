@@ -24,5 +24,5 @@ returns-clause-closed g c s h =
       };
       runs = ap (λ (f : CardFacts). f.runs) facts ∙ free.runs;
       plan = λ p is. cleared-plan (g.C.Card.facts c.free.new.self.card).plan p c.free.new.self.planned (sym (ap (λ (f : CardFacts). f.plan) facts) ∙ is);
-      sound = record { state = refl; setup = refl; stands = refl; unmapped = c.requires.unmapped s h; taken = refl; to_give = refl; kept = refl };
+      sound = record { state = refl; setup = refl; at = refl; moved = refl; stands = refl; unmapped = c.requires.unmapped s h; taken = refl; to_give = refl; kept = refl };
     }

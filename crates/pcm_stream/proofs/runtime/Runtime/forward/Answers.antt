@@ -1,0 +1,31 @@
+use Rattle.std.proofs.Common.{◌≡◌, ◌+◌, ◌%◌, min, ◌∙◌, ap, arith}
+use Rattle.pcm_base.specs.model.Stream.{avail}
+use Rattle.pcm_stream.proofs.runtime.Runtime.forward.Goals as goal
+
+pub returns-clause-count : goal.returns-clause-count
+returns-clause-count c s dir h placed =
+    let free : c.avail.result ≡ avail s = c.avail.ensures.model s dir h placed in
+    omega (arith, free, c.min-count.ensures)
+
+pub returns-clause-moved : goal.returns-clause-moved
+returns-clause-moved c s dir h placed =
+    let r = c.args.self.now in
+    let free : c.avail.result ≡ avail s = c.avail.ensures.model s dir h placed in
+    let count : c.min-count.result ≡ min c.args.n (avail s) = omega (arith, free, c.min-count.ensures) in
+    record {
+      config = h.config;
+      shape = h.shape;
+      frame_bytes = h.frame_bytes;
+      buffer = h.buffer;
+      boundary = h.boundary;
+      sw = h.sw;
+      mappings = h.mappings;
+      hw = h.hw;
+      appl = c.add-self.ensures.shown s.at.appl h.appl ∙ ap (λ n. (s.at.appl + n) % r.shape.boundary) count;
+      filled = h.filled;
+      ring = h.ring;
+      puts = h.puts;
+      taken = h.taken;
+      to_give = h.to_give;
+      moved = h.moved;
+    }
