@@ -1,0 +1,11 @@
+pub mod Waiting
+pub mod Ended
+pub mod Lent
+pub mod Carried
+pub mod Faults
+pub mod Turn
+pub mod Built
+pub mod Stepped
+pub mod Inside
+pub mod Transfers
+pub mod Bytes
