@@ -1,0 +1,10 @@
+mod ListLemmas
+mod LogLemmas
+mod SeatLemmas
+mod RecSteps
+mod PassSteps
+mod NoteSteps
+mod MakerSteps
+mod RollSteps
+mod TellingLemmas
+mod RollLemmas

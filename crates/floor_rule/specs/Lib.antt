@@ -1,0 +1,9 @@
+pub mod Marks
+pub mod Pages
+pub mod Lists
+pub mod Causes
+pub mod Views
+pub mod Rule
+pub mod Steps
+pub mod Seats
+pub mod Laws
