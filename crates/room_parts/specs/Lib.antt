@@ -1,0 +1,4 @@
+pub mod Names
+pub mod Recs
+pub mod Passes
+pub mod Links
