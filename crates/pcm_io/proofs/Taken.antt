@@ -1,9 +1,9 @@
 -- Bytes that one read after another takes.
-use Rattle.std.proofs.Common.{◌≡◌, inl, inr, ℕ, ◌+◌, ◌≤◌, List, ◌++◌, length, take, drop, min, None, Some, sym, ◌∙◌, ap, subst, arith, append_assoc}
+use Rattle.std.proofs.Common.{◌≡◌, inl, inr, ℕ, ◌+◌, ◌≤◌, List, ◌++◌, length, take, drop, min, None, Some, sym, ◌∙◌, ap, subst, arith, append_assoc, refl, length-drop, ◌-◌}
 use Rattle.std.specs.declared.option.Option.{Option}
 use Rattle.std.specs.Io.KnownBytes.{Consumes, Appends}
 use Rattle.std.proofs.Math.Seq.{take-add, take-length}
-use Rattle.std.proofs.lemmas.List.{take-append-drop, take_at, take_all, drop-drop, length-take-le}
+use Rattle.std.proofs.lemmas.List.{take-append-drop, take_at, take_all, take-take, drop-drop, length-take-le}
 use Rattle.std.proofs.lemmas.Bool.{cases_lt}
 
 -- two runs of takes in a row
@@ -39,3 +39,18 @@ take_min n xs = elim (cases_lt n (length xs)) [
   | inl longer ↦ let m : min (length xs) n ≡ n = omega arith in ap (λ (k : ℕ). take k xs) m
   | inr shorter ↦ let m : min (length xs) n ≡ length xs = omega arith in ap (λ (k : ℕ). take k xs) m ∙ take-length xs ∙ sym (take_all n xs shorter)
 ]
+
+-- the front of a part of some bytes
+pub appends_within : (a b c : Option (List ℕ)) (bytes part : List ℕ) (done n size : ℕ) → Appends a b (take done bytes) → Appends b c (take n part) → part ≡ take size (drop done bytes) → n ≤ length part → done + size ≤ length bytes
+    → (k : ℕ) × (k ≤ length bytes) × Appends a c (take k bytes)
+appends_within a b c bytes part done n size h k is le within =
+    let long : length part ≡ size = ap length is ∙ length-take-le size (drop done bytes) (omega (arith, length-drop done bytes)) in
+    let front : take n part ≡ take n (drop done bytes) = ap (λ (l : List ℕ). take n l) is ∙ take-take n size (drop done bytes) (omega (arith, le, long)) in
+    (done + n, omega (arith, le, long, within), appends_next a b c bytes (drop done bytes) done n h (subst (Appends b c) front k) refl)
+
+-- a front of the text, and a front of what is left of it
+pub appends_rest : (a b c : Option (List ℕ)) (bytes rest : List ℕ) (done n : ℕ) → Appends a b (take done bytes) → Appends b c (take n rest) → rest ≡ drop done bytes → done ≤ length bytes → n ≤ length rest
+    → (k : ℕ) × (k ≤ length bytes) × Appends a c (take k bytes)
+appends_rest a b c bytes rest done n h k is le few =
+    let long : length rest ≡ length bytes - done = ap length is ∙ length-drop done bytes in
+    (done + n, omega (arith, le, few, long), appends_next a b c bytes rest done n h k is)

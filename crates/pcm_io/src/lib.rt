@@ -4,7 +4,9 @@
 //! It stands on `pcm_base`, for the names of files and the counts of faults. Its source is this project's own.
 #![tactic(auto)]
 
+mod ahead;
 mod folder;
+mod lines;
 mod mem_shelf;
 mod memory;
 mod reading;
@@ -15,6 +17,7 @@ mod streams;
 mod writing;
 
 pub use folder::FolderShelf;
+pub use lines::Lines;
 pub use mem_shelf::MemShelf;
 pub use memory::{MemSink, MemSource};
 pub use reading::{ReadEnd, read_to_limit};
@@ -22,7 +25,7 @@ pub use shelf::{LOAD_LIMIT, Shelf, ShelfError};
 pub use sink::Sink;
 pub use source::Source;
 pub use streams::{StdSink, StdSource};
-pub use writing::write_all;
+pub use writing::{write_all, write_pieces, write_rest};
 
 #[cfg(test)]
 mod tests;

@@ -16,7 +16,7 @@ pub enum ReadEnd {
 }
 
 // The most bytes of one read.
-const PIECE: usize = 4096;
+pub(crate) const PIECE: usize = 4096;
 
 /// The bytes of the source, to its end, or one byte more than `limit` where there are more than `limit` bytes. An error
 /// leaves the source after the bytes that were read before it. This project's own.

@@ -120,3 +120,110 @@ fn a_folder_holds_what_was_stored(rt: HostRuntime) -> Result<(), Fail> {
     fs::remove_dir_all(&rt, folder)?;
     Ok(())
 }
+
+// The lines of a source, in its pieces: each is followed by a bar.
+fn barred(alloc: Global, text: &[u8], piece: usize, most: usize) -> Result<Vec<u8>, Fail> {
+    let mut source = MemSource::new(text.to_vec(alloc)?, numbers(alloc, &[])?, piece.max(1));
+    let mut lines = Lines::new(alloc, most);
+    let mut out = Vec::new(alloc);
+    for _ in 0..u64::MAX {
+        if !lines.has_more(&mut source)? {
+            break;
+        }
+        lines.next_line(&mut source)?;
+        out.extend_from_slice(lines.line())?;
+        out.push(if lines.is_used_up() { b'!' } else { b'|' })?;
+    }
+    Ok(out)
+}
+
+#[test]
+fn lines_are_cut_at_their_line_feeds(rt: HostRuntime) -> Result<(), Fail> {
+    for (text, most, want) in [
+        (b"".as_slice(), 99, b"".as_slice()),
+        (b"\n", 99, b"|"),
+        (b"ab\n\nc", 99, b"ab||c|"),
+        (b"ab\ncde\n", 99, b"ab|cde|"),
+        (b"a long line\nab", 99, b"a long line|ab|"),
+        (b"ab\ncde\n", 7, b"ab|cde!"),
+        (b"ab\ncde\nf", 6, b"ab|cde!"),
+        (b"ab\ncde", 5, b"ab|cd!"),
+        (b"ab", 0, b""),
+    ] {
+        for piece in [1, 2, 3, 64] {
+            let got = barred(rt.alloc(), text, piece, most)?;
+            assert_eq!(rt; got.as_slice(), want, "pieces of {piece}");
+        }
+    }
+    Ok(())
+}
+
+#[test]
+fn a_failed_read_leaves_what_came_of_a_line(rt: HostRuntime) -> Result<(), Fail> {
+    let alloc = rt.alloc();
+    let mut source = MemSource::new(b"ab\ncdef\n".to_vec(alloc)?, numbers(alloc, &[1, 4])?, 2);
+    let mut lines = Lines::new(alloc, 99);
+    assert_eq!(rt; lines.has_more(&mut source), Err(Failed));
+    assert_eq!(rt; lines.has_more(&mut source), Ok(true));
+    assert_eq!(rt; lines.next_line(&mut source), Ok(()));
+    assert_eq!(rt; lines.line(), b"ab".as_slice());
+    assert_eq!(rt; lines.next_line(&mut source), Err(ReadEnd::Failed));
+    assert_eq!(rt; lines.line(), b"c".as_slice());
+    assert_eq!(rt; lines.next_line(&mut source), Ok(()));
+    assert_eq!(rt; lines.line(), b"def".as_slice());
+    assert_eq!(rt; lines.has_more(&mut source), Ok(false));
+    Ok(())
+}
+
+#[test]
+fn text_is_written_in_whole_pieces(rt: HostRuntime) -> Result<(), Fail> {
+    let alloc = rt.alloc();
+    for (failing, len, wrote, written, rest) in [
+        (9, 4095, Ok(()), 0, 4095),
+        (9, 4096, Ok(()), 4096, 0),
+        (9, 10_000, Ok(()), 8192, 1808),
+        (2, 10_000, Err(Failed), 4096, 10_000),
+    ] {
+        let mut text = Vec::new(alloc);
+        text.resize(len - 1, b'x')?;
+        text.push(b'y')?;
+        let mut sink = MemSink::new(alloc, numbers(alloc, &[failing])?);
+        assert_eq!(rt; write_pieces(&mut sink, &mut text), wrote);
+        assert_eq!(rt; sink.bytes().len(), written);
+        assert_eq!(rt; text.len(), rest);
+        assert!(rt; rest == 0 || text.last() == Some(&b'y'));
+    }
+    Ok(())
+}
+
+#[test]
+fn all_of_a_text_is_written_in_pieces(rt: HostRuntime) -> Result<(), Fail> {
+    let alloc = rt.alloc();
+    for (failing, len, wrote, written) in [
+        (9, 0, Ok(()), 0),
+        (9, 10_000, Ok(()), 10_000),
+        (2, 10_000, Err(Failed), 4096),
+        (3, 10_000, Err(Failed), 8192),
+    ] {
+        let mut text = Vec::new(alloc);
+        text.resize(len, b'x')?;
+        let mut sink = MemSink::new(alloc, numbers(alloc, &[failing])?);
+        assert_eq!(rt; write_rest(&mut sink, &mut text), wrote);
+        assert_eq!(rt; sink.bytes().len(), written);
+    }
+    Ok(())
+}
+
+#[test]
+fn a_line_is_given_before_the_source_has_ended(rt: HostRuntime) -> Result<(), Fail> {
+    let alloc = rt.alloc();
+    let mut source = MemSource::new(b"ab\ncd\n".to_vec(alloc)?, numbers(alloc, &[])?, 3);
+    let mut lines = Lines::new(alloc, 99);
+    assert_eq!(rt; lines.has_more(&mut source), Ok(true));
+    assert_eq!(rt; lines.next_line(&mut source), Ok(()));
+    assert_eq!(rt; lines.line(), b"ab".as_slice());
+    let mut into = [0u8; 4];
+    assert_eq!(rt; source.read(&mut into), Ok(3));
+    assert_eq!(rt; into[..3], b"cd\n"[..]);
+    Ok(())
+}
