@@ -30,7 +30,7 @@ use Rattle.pcm_base.specs.declared.state.State.{State}
 use Rattle.pcm_base.specs.declared.state.State.TheVariants as state
 use Rattle.pcm_base.specs.model.Acts.{table}
 use Rattle.pcm_base.specs.model.Allowed.{accepts}
-use Rattle.pcm_base.specs.model.Events.{event, drain, drain_now, delay, if_held, is_busy, page}
+use Rattle.pcm_base.specs.model.Events.{event, drain, drain_now, delay, if_held, is_busy, page, unplug_alone}
 use Rattle.pcm_base.specs.model.Frame.{Frame}
 use Rattle.pcm_base.specs.model.Movement.{Movement, given_by, move, taken_by, taken_bytes}
 use Rattle.pcm_base.specs.model.Permit.{permit}
@@ -237,6 +237,9 @@ same_substream call.Status c io s h = Leaves-updating s (λ u t. says (reply.Ptr
 same_substream call.PageNow c io s h = itself s
 same_substream (call.MoveBy n) c io s h = Leaves-move n s
 same_substream call.Irq c io s h = Leaves-updating s (λ u. says reply.Ok) (λ u t. itself t)
+same_substream call.Unplug c io s h =
+    Leaves-unless (table kind.Unplug s) s _
+    (Leaves-either s.card.runs s _ _ (Leaves-making (act.Stop state.Setup) s unplug_alone (λ t. record { sleepers = refl; model = refl; dir = refl })) (record { sleepers = refl; model = refl; dir = refl }))
 same_substream _ c io s h = unbuilt s _ h
 
 -- ---- what programs end with

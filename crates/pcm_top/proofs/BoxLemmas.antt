@@ -69,6 +69,7 @@ channels-below model.Duplex = lit< tt
 channels-below model.Studio = lit< tt
 channels-below model.NoPause = lit< tt
 channels-below model.NoResume = lit< tt
+channels-below model.Indirect = lit< tt
 
 rate-below : (x : Model) → (limits_of x).rate.most < 2 ^ 63
 rate-below model.Basic = lit< tt
@@ -76,6 +77,7 @@ rate-below model.Duplex = lit< tt
 rate-below model.Studio = lit< tt
 rate-below model.NoPause = lit< tt
 rate-below model.NoResume = lit< tt
+rate-below model.Indirect = lit< tt
 
 period-below : (x : Model) → (limits_of x).period.most < 2 ^ 63
 period-below model.Basic = lit< tt
@@ -83,6 +85,7 @@ period-below model.Duplex = lit< tt
 period-below model.Studio = lit< tt
 period-below model.NoPause = lit< tt
 period-below model.NoResume = lit< tt
+period-below model.Indirect = lit< tt
 
 pub box-fits : (x : Model) (s h : Box) → IsHull (limits_of x) s h → SpaceFits h
 box-fits x s h is = record {

@@ -1,6 +1,9 @@
 pub mod LineLemmas
 pub mod BoxLemmas
 pub mod ScriptLemmas
+pub mod BehindLemmas
+pub mod FrontLemmas
+pub mod StreamLemmas
 pub mod OutputLemmas
 pub mod AloneLemmas
 pub mod WriteLemmas

@@ -1,8 +1,7 @@
 -- What one more line of a script gives, and that a script whose stores go well gives one session and one end.
 use Rattle.std.proofs.Common.{◌≡◌, ℕ, ◌+◌, ◌≤◌, ◌==◌, Bool, true, false, List, [], ◌∷◌, ◌++◌, None, Some, refl, sym, ◌∙◌, ap, subst, inl, inr, arith, length, nat_lt, tests, rules, append-nil, eq-eqb}
-use Rattle.std.specs.Prelude.{◌≢◌, ◌⊎◌, if◌then◌else◌}
+use Rattle.std.specs.Prelude.{◌≢◌, ◌⊎◌, ◌<◌, ◌↔◌, IsTrue, if◌then◌else◌, Result, Ok, Err, OnErr}
 use Rattle.std.specs.declared.option.Option.{Option}
-use Rattle.std.specs.List.{before_first, after_first}
 use Rattle.std.proofs.lemmas.Bool.{cases_lt}
 use Rattle.std.proofs.lemmas.Bool.Decides.{nat_tests}
 use Rattle.pcm_base.specs.declared.config.Model.{Model}
@@ -11,6 +10,7 @@ use Rattle.pcm_line.specs.declared.error.LineError.{LineError}
 use Rattle.pcm_line.specs.declared.line.Line.{Line}
 use Rattle.pcm_line.specs.declared.line.Line.TheVariants.{Space, Save}
 use Rattle.pcm_line.specs.Grammar.{IsLine}
+use Rattle.pcm_line.specs.Skipped.{IsSkipped}
 use Rattle.pcm_line.proofs.Spellings.{one-spelling, one-meaning}
 use Rattle.pcm_line.proofs.GrammarLaws.{line-no-fault, one-fault}
 use Rattle.card_emul.specs.Limits.{limits_of}
@@ -22,12 +22,11 @@ use Rattle.pcm_top.specs.declared.end.End.{End}
 use Rattle.pcm_top.specs.declared.end.End.TheVariants.{Whole, BadLine, ScriptLines, ScriptBytes, ShelfFault}
 use Rattle.pcm_io.specs.Shelf.{Files}
 use Rattle.pcm_top.specs.declared.session.Session.{Session as Kept}
-use Rattle.pcm_top.specs.CodeSession.{IsSession, IsStopped, IsCut, IsRan, IsCutShort, IsStop, StopsBy}
+use Rattle.pcm_top.specs.CodeSession.{IsSession, IsNext, IsStopped, IsCut, HasPassed, HasEnded, HasLacked, IsStop, IsNoLine, StopsBy}
 use Rattle.pcm_top.specs.Lines.{lines_of, is_last}
 use Rattle.pcm_top.specs.Refine.{IsBoxLine, IsAnswer}
-use Rattle.pcm_top.specs.Script.{Answers, Halts, has, HasFault, IsAnswered, byte_limit, line_limit, limit_for, LineGives, Gives, FrontGives, Reaches, closing, whole_text}
+use Rattle.pcm_top.specs.Script.{Answers, Halts, has, misplaced, HasFault, IsAnswered, IsBad, Passes, byte_limit, line_limit, limit_for, LineGives, Gives, FrontGives, Reaches, closing, whole_text}
 use Rattle.pcm_top.specs.Session.{Session, begin, AreFiles, AreFilesBut}
-use Rattle.pcm_top.proofs.LineLemmas.{is_feed, lines_first}
 
 -- ---- where the lines end
 
@@ -38,95 +37,71 @@ no-lines (x ∷ xs) e = absurd (grind (arith, nat_tests))
 pub gives-whole : (c : Command) (over : Bool) (count : ℕ) (s : Session) (lines : List (List ℕ)) → lines ≡ [] → Gives c over count s lines s Whole
 gives-whole c over count s lines e = subst (λ (xs : List (List ℕ)). Gives c over count s xs s Whole) (sym e) (refl, refl)
 
+-- ---- a line that passes
+
+pub passes-map : (c : Command) (number : ℕ) (P Q : Session → Type 0) (s : Session) (bytes : List ℕ) → ((t : Session) → P t → Q t) → Passes c number P s bytes → Passes c number Q s bytes
+passes-map c number P Q s bytes f (inl h) = inl (h.0, f s h.1)
+passes-map c number P Q s bytes f (inr h) = inr (record { speaks = h.speaks; line = h.line; says = h.says; next = h.next; answers = h.answers; follows = f h.next h.follows })
+
+-- the line passes to the next session, and this follows
+pub passes-on : (c : Command) (number : ℕ) (P : Session → Type 0) (s next : Session) (bytes : List ℕ) → Passes c number (λ t. t ≡ next) s bytes → P next → Passes c number P s bytes
+passes-on c number P s next bytes h p = passes-map c number (λ t. t ≡ next) P s bytes (λ t e. subst P (sym e) p) h
+
+pub passes-answered : (c : Command) (number : ℕ) (s next : Session) (line : Line) (bytes : List ℕ) → (¬ IsSkipped s.version bytes) → IsLine bytes line → Answers c number line s next → Passes c number (λ t. t ≡ next) s bytes
+passes-answered c number s next line bytes speaks says answers = inr (record { speaks = speaks; line = line; says = says; next = next; answers = answers; follows = refl })
+
+-- ---- what a line gives
+
 stopped : (c : Command) (o : Option End) (number : ℕ) (rest : Session → Type 0) (s : Session) (ended : End) (bytes : List ℕ)
-    → StopsBy o c number bytes ended → LineGives c o number rest s s ended bytes
-stopped c (Some limit) number rest s ended bytes h = (refl, h)
-stopped c None number rest s ended bytes h = inr (inl (record { fault = h.fault; why = h.why; same = refl; here = h.here }))
+    → (o ≡ None → ¬ IsSkipped s.version bytes) → StopsBy o c number bytes ended → LineGives c o number rest s s ended bytes
+stopped c (Some limit) number rest s ended bytes speaks h = (refl, h)
+stopped c None number rest s ended bytes speaks h = inr (inl (record { speaks = speaks refl; fault = h.fault; why = h.why; same = refl; here = h.here }))
 
-pub gives-stop : (c : Command) (over : Bool) (count : ℕ) (s : Session) (ended : End) (bytes : List ℕ) (lines all : List (List ℕ)) → all ≡ bytes ∷ lines
-    → IsStop c (is_last over lines) count bytes ended → Gives c over count s all s ended
-gives-stop c over count s ended bytes lines all e h =
-    subst (λ (xs : List (List ℕ)). Gives c over count s xs s ended) (sym e)
-    (stopped c (limit_for (is_last over lines) count) (count + 1) (λ t. Gives c over (count + 1) t lines s ended) s ended bytes h)
-
--- ---- a line of the command
+pub gives-stop : (c : Command) (over : Bool) (count : ℕ) (s : Session) (ended : End) (bytes : List ℕ) (lines : List (List ℕ))
+    → (limit_for (is_last over lines) count ≡ None → ¬ IsSkipped s.version bytes) → IsStop c (is_last over lines) count bytes ended → Gives c over count s (bytes ∷ lines) s ended
+gives-stop c over count s ended bytes lines speaks h =
+    stopped c (limit_for (is_last over lines) count) (count + 1) (λ t. Gives c over (count + 1) t lines s ended) s ended bytes speaks h
 
 -- no limit is reached, and the line gives this
 below : (c : Command) (o : Option End) (number : ℕ) (rest : Session → Type 0) (s last : Session) (ended : End) (bytes : List ℕ) → o ≡ None
     → LineGives c None number rest s last ended bytes → LineGives c o number rest s last ended bytes
 below c o number rest s last ended bytes e h = subst (λ (x : Option End). LineGives c x number rest s last ended bytes) (sym e) h
 
-pub gives-answered : (c : Command) (over : Bool) (count : ℕ) (s next last : Session) (ended : End) (line : Line) (bytes : List ℕ) (lines all : List (List ℕ)) → all ≡ bytes ∷ lines
-    → limit_for (is_last over lines) count ≡ None → IsLine bytes line → Answers c (count + 1) line s next → Gives c over (count + 1) next lines last ended
-    → Gives c over count s all last ended
-gives-answered c over count s next last ended line bytes lines all e few says answers follows =
-    subst (λ (xs : List (List ℕ)). Gives c over count s xs last ended) (sym e)
-    (below c (limit_for (is_last over lines) count) (count + 1) (λ t. Gives c over (count + 1) t lines last ended) s last ended bytes few
-    (inl (record { line = line; says = says; next = next; answers = answers; follows = follows })))
+pub gives-passed : (c : Command) (over : Bool) (count : ℕ) (s next last : Session) (ended : End) (bytes : List ℕ) (lines : List (List ℕ)) → limit_for (is_last over lines) count ≡ None
+    → Passes c (count + 1) (λ t. t ≡ next) s bytes → Gives c over (count + 1) next lines last ended → Gives c over count s (bytes ∷ lines) last ended
+gives-passed c over count s next last ended bytes lines few passes follows =
+    below c (limit_for (is_last over lines) count) (count + 1) (λ t. Gives c over (count + 1) t lines last ended) s last ended bytes few
+    (inl (passes-on c (count + 1) (λ t. Gives c over (count + 1) t lines last ended) s next bytes passes follows))
 
-pub gives-halted : (c : Command) (over : Bool) (count : ℕ) (s last : Session) (ended : End) (line : Line) (bytes : List ℕ) (lines all : List (List ℕ)) → all ≡ bytes ∷ lines
-    → limit_for (is_last over lines) count ≡ None → IsLine bytes line → Halts c line s last ended → Gives c over count s all last ended
-gives-halted c over count s last ended line bytes lines all e few says halts =
-    subst (λ (xs : List (List ℕ)). Gives c over count s xs last ended) (sym e)
-    (below c (limit_for (is_last over lines) count) (count + 1) (λ t. Gives c over (count + 1) t lines last ended) s last ended bytes few
-    (inr (inr (record { line = line; says = says; halts = halts }))))
+pub gives-halted : (c : Command) (over : Bool) (count : ℕ) (s last : Session) (ended : End) (line : Line) (bytes : List ℕ) (lines : List (List ℕ))
+    → limit_for (is_last over lines) count ≡ None → IsLine bytes line → Halts c line s last ended → Gives c over count s (bytes ∷ lines) last ended
+gives-halted c over count s last ended line bytes lines few says halts =
+    below c (limit_for (is_last over lines) count) (count + 1) (λ t. Gives c over (count + 1) t lines last ended) s last ended bytes few
+    (inr (inr (record { line = line; says = says; halts = halts })))
 
 -- ---- what some of the lines lead to
 
-pub reaches-here : (c : Command) (count : ℕ) (s : Session) (lines : List (List ℕ)) → Reaches c count s lines s
-reaches-here c count s [] = refl
-reaches-here c count s (bytes ∷ lines) = inl refl
+pub reaches-here : (c : Command) (over : Bool) (count : ℕ) (s : Session) (lines : List (List ℕ)) → Reaches c over count s lines s
+reaches-here c over count s [] = refl
+reaches-here c over count s (bytes ∷ lines) = inl refl
 
-pub reaches-on : (c : Command) (count : ℕ) (s next last : Session) (line : Line) (bytes : List ℕ) (lines all : List (List ℕ)) → all ≡ bytes ∷ lines
-    → IsLine bytes line → Answers c (count + 1) line s next → Reaches c (count + 1) next lines last → Reaches c count s all last
-reaches-on c count s next last line bytes lines all e says answers follows =
-    subst (λ (xs : List (List ℕ)). Reaches c count s xs last) (sym e) (inr (inl (record { line = line; says = says; next = next; answers = answers; follows = follows })))
+pub reaches-passed : (c : Command) (over : Bool) (count : ℕ) (s next last : Session) (bytes : List ℕ) (lines : List (List ℕ)) → limit_for (is_last over lines) count ≡ None
+    → Passes c (count + 1) (λ t. t ≡ next) s bytes → Reaches c over (count + 1) next lines last → Reaches c over count s (bytes ∷ lines) last
+reaches-passed c over count s next last bytes lines few passes follows =
+    inr (few, passes-on c (count + 1) (λ t. Reaches c over (count + 1) t lines last) s next bytes passes follows)
 
-pub reaches-cut : (c : Command) (count : ℕ) (s last : Session) (line : Line) (bytes : List ℕ) (lines all : List (List ℕ)) → all ≡ bytes ∷ lines
-    → IsLine bytes line → (last ≡ s) ⊎ Answers c (count + 1) line s last → Reaches c count s all last
-reaches-cut c count s last line bytes lines all e says (inl same) = subst (λ (xs : List (List ℕ)). Reaches c count s xs last) (sym e) (inl same)
-reaches-cut c count s last line bytes lines all e says (inr answers) = reaches-on c count s last last line bytes lines all e says answers (reaches-here c (count + 1) last lines)
+reaches-cut : (c : Command) (over : Bool) (count : ℕ) (s last : Session) (line : Line) (bytes : List ℕ) (lines : List (List ℕ)) → limit_for (is_last over lines) count ≡ None
+    → (¬ IsSkipped s.version bytes) → IsLine bytes line → (last ≡ s) ⊎ Answers c (count + 1) line s last → Reaches c over count s (bytes ∷ lines) last
+reaches-cut c over count s last line bytes lines few speaks says (inl same) = inl same
+reaches-cut c over count s last line bytes lines few speaks says (inr answers) =
+    reaches-passed c over count s last last bytes lines few (passes-answered c (count + 1) s last line bytes speaks says answers) (reaches-here c over (count + 1) last lines)
 
 -- ---- a script that is cut is never whole
-
-halts-not-whole : (c : Command) (line : Line) (s last : Session) → Halts c line s last Whole → ⊥
-halts-not-whole Run (Save k name) s last h = let e : Whole ≡ ShelfFault = h.3 in cc
-halts-not-whole Run _ s last h = h
-halts-not-whole Refine line s last h = h
 
 limit-not-whole : (full last : Bool) → (if full then Some ScriptLines else if last then Some ScriptBytes else None) ≡ Some Whole → ⊥
 limit-not-whole true last e = cc
 limit-not-whole false true e = cc
 limit-not-whole false false e = cc
-
-whole-line : (c : Command) (o : Option End) (number : ℕ) (rest : Session → Type 0) (s last : Session) (bytes : List ℕ) → (o ≡ Some Whole → ⊥) → ((t : Session) → rest t → ⊥)
-    → LineGives c o number rest s last Whole bytes → ⊥
-whole-line c None number rest s last bytes other never (inl x) = never x.next x.follows
-whole-line c None number rest s last bytes other never (inr (inl x)) = let e : Whole ≡ BadLine number x.fault = x.here in cc
-whole-line c None number rest s last bytes other never (inr (inr x)) = halts-not-whole c x.line s last x.halts
-whole-line c (Some limit) number rest s last bytes other never given = other (ap (λ (e : End). Some e) (sym given.1))
-
-whole-last : (c : Command) (full : Bool) (number : ℕ) (rest : Session → Type 0) (s last : Session) (bytes : List ℕ)
-    → LineGives c (if full then Some ScriptLines else if true then Some ScriptBytes else None) number rest s last Whole bytes → ⊥
-whole-last c true number rest s last bytes given = let a : Whole ≡ ScriptLines = given.1 in cc
-whole-last c false number rest s last bytes given = let a : Whole ≡ ScriptBytes = given.1 in cc
-
-never-whole : (c : Command) (count : ℕ) (s last : Session) (bytes : List ℕ) (lines : List (List ℕ)) → Gives c true count s (bytes ∷ lines) last Whole → ⊥
-never-whole c count s last bytes [] given = whole-last c (count == line_limit) (count + 1) (λ t. Gives c true (count + 1) t [] last Whole) s last bytes given
-never-whole c count s last bytes (next ∷ lines) given =
-    whole-line c (limit_for false count) (count + 1) (λ t. Gives c true (count + 1) t (next ∷ lines) last Whole) s last bytes (limit-not-whole (count == line_limit) false)
-    (λ t. never-whole c (count + 1) t last next lines) given
-
-pub whole-fits : (c : Command) (script : List ℕ) (s last : Session) → FrontGives c script s last Whole → length script ≤ byte_limit
-whole-fits c script s last given = elim (cases_lt byte_limit (length script)) [
-  | inl long ↦
-      let is-long : nat_lt byte_limit (length script) ≡ true = search (rules, tests) in
-      let same = lines_first script (omega arith) in
-      let cut = subst (λ (b : Bool). Gives c b 0 s (lines_of script) last Whole) is-long given in
-      let first = subst (λ (xs : List (List ℕ)). Gives c true 0 s xs last Whole) same cut in
-      absurd (never-whole c 0 s last (before_first is_feed script) (lines_of (after_first is_feed script)) first)
-  | inr fits ↦ fits
-]
 
 -- ---- one session and one end
 
@@ -145,34 +120,39 @@ one-answer m s a b (inl x) (inr y) = absurd (not-none m s a x y.0)
 one-answer m s a b (inr x) (inl y) = absurd (not-none m s b y x.0)
 one-answer m s a b (inr x) (inr y) = x.1 ∙ sym y.1
 
-one-next : (c : Command) (number : ℕ) (line : Line) (s a b : Session) → Answers c number line s a → Answers c number line s b → a ≡ b
+pub one-next : (c : Command) (number : ℕ) (line : Line) (s a b : Session) → Answers c number line s a → Answers c number line s b → a ≡ b
 one-next Run number line s a b x y = x.1 ∙ sym y.1
 one-next Refine number (Space m space) s a b x y =
     let texts : x.0 ≡ y.0 = one-answer m space x.0 y.0 x.1 y.1 in
     x.2 ∙ (ap (λ (t : List ℕ). let r : Session = record s { text = s.text ++ t } in r) texts ∙ sym y.2)
 one-next Refine number _ s a b x y = absurd x
 
-answers-has : (c : Command) (number : ℕ) (line : Line) (s t : Session) → Answers c number line s t → has c line ≡ true
+answers-has : (c : Command) (number : ℕ) (line : Line) (s t : Session) → Answers c number line s t → has c number line ≡ true
 answers-has Run number line s t h = h.0
 answers-has Refine number (Space m space) s t h = refl
 answers-has Refine number _ s t h = absurd h
 
-halts-stores : (c : Command) (line : Line) (s last : Session) (ended : End) → Halts c line s last ended → ended ≡ ShelfFault
+pub halts-stores : (c : Command) (line : Line) (s last : Session) (ended : End) → Halts c line s last ended → ended ≡ ShelfFault
 halts-stores Run (Save k name) s last ended h = h.3
 halts-stores Run _ s last ended h = absurd h
 halts-stores Refine line s last ended h = absurd h
 
-no-fault : (c : Command) (bytes : List ℕ) (line : Line) (fault : LineError) → IsLine bytes line → has c line ≡ true → HasFault c bytes fault → ⊥
-no-fault c bytes line fault says own (inl f) = line-no-fault bytes line fault says f
-no-fault c bytes line fault says own (inr other) =
+pub no-fault : (c : Command) (number : ℕ) (bytes : List ℕ) (line : Line) (fault : LineError) → IsLine bytes line → has c number line ≡ true → HasFault c number bytes fault → ⊥
+no-fault c number bytes line fault says own (inl f) = line-no-fault bytes line fault says f
+no-fault c number bytes line fault says own (inr other) =
     let same : other.0 ≡ line = one-meaning bytes other.0 line other.1 says in
-    let e : true ≡ false = sym own ∙ (sym (ap (has c) same) ∙ other.2) in cc
+    let e : true ≡ false = sym own ∙ (sym (ap (has c number) same) ∙ other.2) in cc
 
-one-why : (c : Command) (bytes : List ℕ) (a b : LineError) → HasFault c bytes a → HasFault c bytes b → a ≡ b
-one-why c bytes a b (inl x) (inl y) = one-fault bytes a b x y
-one-why c bytes a b (inl x) (inr y) = absurd (line-no-fault bytes y.0 a y.1 x)
-one-why c bytes a b (inr x) (inl y) = absurd (line-no-fault bytes x.0 b x.1 y)
-one-why c bytes a b (inr x) (inr y) = x.3 ∙ sym y.3
+one-why : (c : Command) (number : ℕ) (bytes : List ℕ) (a b : LineError) → HasFault c number bytes a → HasFault c number bytes b → a ≡ b
+one-why c number bytes a b (inl x) (inl y) = one-fault bytes a b x y
+one-why c number bytes a b (inl x) (inr y) = absurd (line-no-fault bytes y.0 a y.1 x)
+one-why c number bytes a b (inr x) (inl y) = absurd (line-no-fault bytes x.0 b x.1 y)
+one-why c number bytes a b (inr x) (inr y) = x.3 ∙ (ap (misplaced c number) (one-meaning bytes x.0 y.0 x.1 y.1) ∙ sym y.3)
+
+-- a line that passes is none that ends the script
+pub not-bad : (c : Command) (number : ℕ) (P : Session → Type 0) (s last : Session) (ended : End) (bytes : List ℕ) → Passes c number P s bytes → IsBad c number s last ended bytes → ⊥
+not-bad c number P s last ended bytes (inl h) bad = bad.speaks h.0
+not-bad c number P s last ended bytes (inr h) bad = no-fault c number bytes h.line bad.fault h.says (answers-has c number h.line s h.next h.answers) bad.why
 
 -- what follows gives one session and one end
 abbrev IsOne : (Session → Session → End → Type 0) → Type 0
@@ -186,14 +166,21 @@ one-answered c number rest s a b e f bytes one p q x y =
     let next : x.next ≡ y.next = one-next c number y.line s x.next y.next here y.answers in
     one y.next a b e f p q (subst (λ (t : Session). rest t a e) next x.follows) y.follows
 
+one-passed : (c : Command) (number : ℕ) (rest : Session → Session → End → Type 0) (s a b : Session) (e f : End) (bytes : List ℕ) → IsOne rest → e ≢ ShelfFault → f ≢ ShelfFault
+    → Passes c number (λ t. rest t a e) s bytes → Passes c number (λ t. rest t b f) s bytes → (a ≡ b) × (e ≡ f)
+one-passed c number rest s a b e f bytes one p q (inl x) (inl y) = one s a b e f p q x.1 y.1
+one-passed c number rest s a b e f bytes one p q (inl x) (inr y) = absurd (y.speaks x.0)
+one-passed c number rest s a b e f bytes one p q (inr x) (inl y) = absurd (x.speaks y.0)
+one-passed c number rest s a b e f bytes one p q (inr x) (inr y) = one-answered c number rest s a b e f bytes one p q x y
+
 one-line : (c : Command) (o : Option End) (number : ℕ) (rest : Session → Session → End → Type 0) (s a b : Session) (e f : End) (bytes : List ℕ) → IsOne rest → e ≢ ShelfFault → f ≢ ShelfFault
     → LineGives c o number (λ t. rest t a e) s a e bytes → LineGives c o number (λ t. rest t b f) s b f bytes → (a ≡ b) × (e ≡ f)
 one-line c (Some limit) number rest s a b e f bytes one p q x y = (x.0 ∙ sym y.0, x.1 ∙ sym y.1)
-one-line c None number rest s a b e f bytes one p q (inl x) (inl y) = one-answered c number rest s a b e f bytes one p q x y
-one-line c None number rest s a b e f bytes one p q (inl x) (inr (inl y)) = absurd (no-fault c bytes x.line y.fault x.says (answers-has c number x.line s x.next x.answers) y.why)
-one-line c None number rest s a b e f bytes one p q (inr (inl x)) (inl y) = absurd (no-fault c bytes y.line x.fault y.says (answers-has c number y.line s y.next y.answers) x.why)
+one-line c None number rest s a b e f bytes one p q (inl x) (inl y) = one-passed c number rest s a b e f bytes one p q x y
+one-line c None number rest s a b e f bytes one p q (inl x) (inr (inl y)) = absurd (not-bad c number (λ t. rest t a e) s b f bytes x y)
+one-line c None number rest s a b e f bytes one p q (inr (inl x)) (inl y) = absurd (not-bad c number (λ t. rest t b f) s a e bytes y x)
 one-line c None number rest s a b e f bytes one p q (inr (inl x)) (inr (inl y)) =
-    (x.same ∙ sym y.same, x.here ∙ (ap (λ (w : LineError). BadLine number w) (one-why c bytes x.fault y.fault x.why y.why) ∙ sym y.here))
+    (x.same ∙ sym y.same, x.here ∙ (ap (λ (w : LineError). BadLine number w) (one-why c number bytes x.fault y.fault x.why y.why) ∙ sym y.here))
 one-line c None number rest s a b e f bytes one p q (inr (inr x)) y = absurd (p (halts-stores c x.line s a e x.halts))
 one-line c None number rest s a b e f bytes one p q x (inr (inr y)) = absurd (q (halts-stores c y.line s b f y.halts))
 
@@ -205,6 +192,14 @@ one-end c over count s (bytes ∷ lines) a b e f p q x y =
     (λ t u v g h i j. one-end c over (count + 1) t lines u v g h i j) p q x y
 
 -- ---- what the loop over the lines keeps
+
+pub few-open : (last : Bool) (count : ℕ) → limit_for last count ≡ None → last ≡ false
+few-open false count e = refl
+few-open true count e = by (count == line_limit) e
+  where
+    by : (b : Bool) → (if b then Some ScriptLines else Some ScriptBytes) ≡ None → true ≡ false
+    by true e = cc
+    by false e = cc
 
 pub few-below : (last : Bool) (count : ℕ) → limit_for last count ≡ None → count ≤ line_limit → count + 1 ≤ line_limit
 few-below last count few most = elim (cases_lt count line_limit) [
@@ -230,38 +225,84 @@ stops-not-whole : (c : Command) (o : Option End) (number : ℕ) (bytes : List �
 stops-not-whole c (Some limit) number bytes ended other h whole = other (ap (λ (e : End). Some e) (sym h ∙ whole))
 stops-not-whole c None number bytes ended other h whole = let e : BadLine number h.fault ≡ Whole = sym h.here ∙ whole in cc
 
-pub ran-stop : (c : Command) (over last : Bool) (count : ℕ) (script : List ℕ) (before files : Option Files) (k : Kept) (s : Session) (ended : End) (bytes : List ℕ) (lines all : List (List ℕ))
-    → all ≡ bytes ∷ lines → last ≡ is_last over lines → IsStop c last count bytes ended → IsSession k files s
-    → ((end : Session) (e : End) → Gives c over count s all end e → FrontGives c script (begin before) end e)
-    → IsRan c script before files k.text.items ended
-ran-stop c over last count script before files k s ended bytes lines all e le stop session gives =
-    let here = subst (λ (b : Bool). IsStop c b count bytes ended) le stop in
-    record {
-      last = s;
-      gives = gives s ended (gives-stop c over count s ended bytes lines all e here);
-      written = session.keeps.text ∙ text-of-stop c ended s (stops-not-whole c (limit_for last count) (count + 1) bytes ended (limit-not-whole (count == line_limit) last) stop);
-      shelf = kept_files k files s session;
-    }
+-- ---- what a line leads to that is none of the command, whose file is not stored, or in which memory is short
 
-pub ran-halted : (c : Command) (over last : Bool) (count : ℕ) (script : List ℕ) (before files : Option Files) (s : Session) (line : Line) (bytes text : List ℕ) (lines all : List (List ℕ))
-    → all ≡ bytes ∷ lines → last ≡ is_last over lines → limit_for last count ≡ None → IsLine bytes line → IsStopped c line s text files
-    → ((end : Session) (e : End) → Gives c over count s all end e → FrontGives c script (begin before) end e)
-    → IsRan c script before files text ShelfFault
-ran-halted c over last count script before files s line bytes text lines all e le few says stopped gives =
-    let open_ : limit_for (is_last over lines) count ≡ None = ap (λ (b : Bool). limit_for b count) (sym le) ∙ few in
-    record {
-      last = stopped.last;
-      gives = gives stopped.last ShelfFault (gives-halted c over count s stopped.last ShelfFault line bytes lines all e open_ says stopped.halts);
-      written = stopped.written ∙ text-of-stop c ShelfFault stopped.last (λ w. cc);
-      shelf = stopped.shelf;
-    }
+ended-stop : (c : Command) (last : Bool) (count : ℕ) (bytes : List ℕ) (s : Session) (k : Kept) (files : Option Files) (ended : End)
+    → (limit_for last count ≡ None → ¬ IsSkipped s.version bytes) → IsStop c last count bytes ended → IsSession k files s → HasEnded c last count bytes s k.text.items files ended
+ended-stop c last count bytes s k files ended speaks stop session = record {
+  last = s;
+  gives = λ over lines e.
+      gives-stop c over count s ended bytes lines (λ few. speaks (ap (λ (b : Bool). limit_for b count) (sym e) ∙ few)) (subst (λ (b : Bool). IsStop c b count bytes ended) (sym e) stop);
+  not_whole = stops-not-whole c (limit_for last count) (count + 1) bytes ended (limit-not-whole (count == line_limit) last) stop;
+  text_is = session.keeps.text;
+  shelf = kept_files k files s session;
+}
 
-pub cut-short : (c : Command) (count : ℕ) (script : List ℕ) (before files : Option Files) (s : Session) (line : Line) (bytes : List ℕ) (lines all : List (List ℕ))
-    → all ≡ bytes ∷ lines → IsLine bytes line → IsCut c (count + 1) line s files
-    → ((end : Session) → Reaches c count s all end → Reaches c 0 (begin before) (lines_of script) end)
-    → IsCutShort c script before files
-cut-short c count script before files s line bytes lines all e says cut reaches = record {
+-- the limits before a line, before which there are few enough
+below-full : (last : Bool) (count : ℕ) → count < line_limit → limit_for last count ≡ (if last then Some ScriptBytes else None)
+below-full last count less =
+    let full : (count == line_limit) ≡ false = grind (arith, nat_tests, less) in
+    ap (λ (b : Bool). if b then Some ScriptLines else if last then Some ScriptBytes else None) full
+
+pub open-limit : (last : Bool) (count : ℕ) → last ≡ false → count < line_limit → limit_for last count ≡ None
+open-limit last count e less = below-full last count less ∙ ap (λ (b : Bool). if b then Some ScriptBytes else None) e
+
+byte-limit : (last : Bool) (count : ℕ) → last ≡ true → count < line_limit → limit_for last count ≡ Some ScriptBytes
+byte-limit last count e less = below-full last count less ∙ ap (λ (b : Bool). if b then Some ScriptBytes else None) e
+
+pub ended-bytes : (c : Command) (last : Bool) (count : ℕ) (bytes : List ℕ) (s : Session) (k : Kept) (files : Option Files) → last ≡ true → count < line_limit
+    → IsSession k files s → HasEnded c last count bytes s k.text.items files ScriptBytes
+ended-bytes c last count bytes s k files e less session =
+    let full = byte-limit last count e less in
+    ended-stop c last count bytes s k files ScriptBytes (λ few. let no : Some ScriptBytes ≡ None = sym full ∙ few in cc)
+    (subst (λ (o : Option End). StopsBy o c (count + 1) bytes ScriptBytes) (sym full) refl) session
+
+pub ended-no-line : (c : Command) (last : Bool) (count : ℕ) (bytes : List ℕ) (s : Session) (k : Kept) (files : Option Files) (ended : End) → limit_for last count ≡ None
+    → (¬ IsSkipped s.version bytes) → IsNoLine c (count + 1) bytes ended → IsSession k files s → HasEnded c last count bytes s k.text.items files ended
+ended-no-line c last count bytes s k files ended few speaks h session =
+    ended-stop c last count bytes s k files ended (λ open_. speaks) (subst (λ (o : Option End). StopsBy o c (count + 1) bytes ended) (sym few) h) session
+
+-- what the test of a skipped line tells of the session's version
+pub skips : (b : Bool) (v w : ℕ) (bytes : List ℕ) → v ≡ w → (IsTrue b ↔ IsSkipped v bytes) → b ≡ true → IsSkipped w bytes
+skips b v w bytes same h e = subst (λ (n : ℕ). IsSkipped n bytes) same (h.0 e)
+
+pub speaks-on : (b : Bool) (v w : ℕ) (bytes : List ℕ) → v ≡ w → (IsTrue b ↔ IsSkipped v bytes) → b ≡ false → ¬ IsSkipped w bytes
+speaks-on b v w bytes same h e = λ skipped. let yes : b ≡ true = h.1 (subst (λ (n : ℕ). IsSkipped n bytes) (sym same) skipped) in let no : true ≡ false = sym yes ∙ e in cc
+
+pub ended-halted : (c : Command) (last : Bool) (count : ℕ) (bytes : List ℕ) (s : Session) (line : Line) (text : List ℕ) (files : Option Files)
+    → limit_for last count ≡ None → IsLine bytes line → IsStopped c line s text files → HasEnded c last count bytes s text files ShelfFault
+ended-halted c last count bytes s line text files few says stopped = record {
+  last = stopped.last;
+  gives = λ over lines e. gives-halted c over count s stopped.last ShelfFault line bytes lines (ap (λ (b : Bool). limit_for b count) e ∙ few) says stopped.halts;
+  not_whole = λ w. cc;
+  text_is = stopped.written;
+  shelf = stopped.shelf;
+}
+
+pub passed-skipped : (c : Command) (last : Bool) (count : ℕ) (bytes : List ℕ) (s : Session) (k : Kept) (files : Option Files) → limit_for last count ≡ None → IsSkipped s.version bytes
+    → IsSession k files s → HasPassed c last count bytes s k files
+passed-skipped c last count bytes s k files few skipped session = record { few = few; next = s; passes = inl (skipped, refl); session = session }
+
+pub passed-answered : (c : Command) (last : Bool) (count : ℕ) (bytes : List ℕ) (s : Session) (line : Line) (k : Kept) (files : Option Files) → limit_for last count ≡ None
+    → (¬ IsSkipped s.version bytes) → IsLine bytes line → IsNext c (count + 1) line s k files → HasPassed c last count bytes s k files
+passed-answered c last count bytes s line k files few speaks says next = record {
+  few = few;
+  next = next.next;
+  passes = passes-answered c (count + 1) s next.next line bytes speaks says next.answers;
+  session = next.session;
+}
+
+pub lacked-here : (c : Command) (last : Bool) (count : ℕ) (bytes : List ℕ) (s : Session) (k : Kept) (files : Option Files) → IsSession k files s → HasLacked c last count bytes s files
+lacked-here c last count bytes s k files session = record { last = s; reaches = λ over lines e. inl refl; shelf = session.shelf }
+
+pub lacked-in : (c : Command) (last : Bool) (count : ℕ) (bytes : List ℕ) (s : Session) (line : Line) (files : Option Files) → limit_for last count ≡ None → (¬ IsSkipped s.version bytes) → IsLine bytes line → IsCut c (count + 1) line s files
+    → HasLacked c last count bytes s files
+lacked-in c last count bytes s line files few speaks says cut = record {
   last = cut.last;
-  reaches = reaches cut.last (reaches-cut c count s cut.last line bytes lines all e says cut.reached);
+  reaches = λ over lines e. reaches-cut c over count s cut.last line bytes lines (ap (λ (b : Bool). limit_for b count) e ∙ few) speaks says cut.reached;
   shelf = cut.shelf;
 }
+
+pub on-err : {T E : Type 0} (r : Result T E) (P : Type 0) → P → OnErr r P
+on-err (Ok x) P h = tt
+on-err (Err e) P h = h

@@ -118,15 +118,16 @@ is-closed state.Xrun b e = e
 is-closed state.Draining b e = e
 is-closed state.Paused b e = e
 is-closed state.Suspended b e = e
+is-closed state.Disconnected b e = e
 
 -- ---- a line of an answer without bytes
 
-pub tells-ok : (r : Result (Unit {0}) AllocError) (world : OneStream) (number : ℕ) (told : Shown) (t : Told) (s : Session) (old : List ℕ) (text : Vec ℕ Global)
-    → OnOk r (text.items ≡ old ++ told_line number told None) → told ≡ shown t → old ≡ s.text → IsWorld world t.world
-    → OnOk r (Keeps (record { world = world; text = text }) (tells number t None s))
-tells-ok (Ok u) world number told t s old text line e same is =
-    record { world = is; text = line ∙ ap (λ (l : List ℕ). l ++ told_line number told None) same ∙ ap (λ (x : Shown). s.text ++ told_line number x None) e }
-tells-ok (Err x) world number told t s old text line e same is = tt
+pub tells-ok : (r : Result (Unit {0}) AllocError) (world : OneStream) (version number : ℕ) (told : Shown) (t : Told) (s : Session) (old : List ℕ) (text : Vec ℕ Global)
+    → OnOk r (text.items ≡ old ++ told_line number told None) → told ≡ shown t → old ≡ s.text → version ≡ s.version → IsWorld world t.world
+    → OnOk r (Keeps (record { world = world; version = version; text = text }) (tells number t None s))
+tells-ok (Ok u) world version number told t s old text line e same v is =
+    record { world = is; version = v; text = line ∙ ap (λ (l : List ℕ). l ++ told_line number told None) same ∙ ap (λ (x : Shown). s.text ++ told_line number x None) e }
+tells-ok (Err x) world version number told t s old text line e same v is = tt
 
 -- ---- why what a card took is stored, or not
 
@@ -159,13 +160,14 @@ modest model.Duplex = record { some_channels = lit≤ tt; few_channels = lit≤ 
 modest model.Studio = record { some_channels = lit≤ tt; few_channels = lit≤ tt; some_rate = lit≤ tt; rate = lit< tt }
 modest model.NoPause = record { some_channels = lit≤ tt; few_channels = lit≤ tt; some_rate = lit≤ tt; rate = lit< tt }
 modest model.NoResume = record { some_channels = lit≤ tt; few_channels = lit≤ tt; some_rate = lit≤ tt; rate = lit< tt }
+modest model.Indirect = record { some_channels = lit≤ tt; few_channels = lit≤ tt; some_rate = lit≤ tt; rate = lit< tt }
 
 wav-format : (f : Format) → is_wav_format f ≡ true → IsWavFormat f
 wav-format format.S8 h = cc
 wav-format format.U8 h = tt
 wav-format format.S16Le h = tt
 wav-format format.S16Be h = cc
-wav-format format.S24Le h = cc
+wav-format format.S24Le h = tt
 wav-format format.S32Le h = tt
 wav-format format.S32Be h = cc
 wav-format format.S24Le3 h = tt
@@ -255,22 +257,22 @@ pub cut-before : (c : Command) (number : ℕ) (line : Line) (k : Kept) (s : Sess
 cut-before c number line k s before now is stay = record {
   last = s;
   reached = inl refl;
-  shelf = subst (λ (l : Option (List ℕ)). AreFilesBut l s.files now) (sym is.none_lost) (stays-along s.files before now is.shelf stay);
+  shelf = stays-along s.files before now is.shelf stay;
 }
 
 pub cut-untouched : (c : Command) (number : ℕ) (line : Line) (k : Kept) (s : Session) (files : Option Files) → IsSession k files s → IsCut c number line s files
 cut-untouched c number line k s files is = record {
   last = s;
   reached = inl refl;
-  shelf = subst (λ (l : Option (List ℕ)). AreFilesBut l s.files files) (sym is.none_lost) is.shelf;
+  shelf = is.shelf;
 }
 
 -- the file was stored, and then memory was wanting
-pub save-cut : (number : ℕ) (k : SubId) (name : List ℕ) (s : Session) (now : Option Files) → is_built (Save k name) ≡ true → s.lost ≡ None → Stay (files_saved k name s.world s.files) now → IsCut Run number (Save k name) s now
-save-cut number k name s now own none stay = record {
+pub save-cut : (number : ℕ) (k : SubId) (name : List ℕ) (s : Session) (now : Option Files) → is_built (Save k name) ≡ true → Stay (files_saved k name s.world s.files) now → IsCut Run number (Save k name) s now
+save-cut number k name s now own stay = record {
   last = run_line number (Save k name) s;
   reached = inr (own, refl);
-  shelf = subst (λ (l : Option (List ℕ)). AreFilesBut l (files_saved k name s.world s.files) now) (sym none) stay;
+  shelf = stay;
 }
 
 -- the line of a save stands behind the text
@@ -283,10 +285,11 @@ save-text number k w told r old text now t answer same line =
 pub save-session : (kept : Kept) (number : ℕ) (k : SubId) (name : List ℕ) (s : Session) (files now : Option Files) (told : Shown) (r : Reply) (text : Vec ℕ Global)
     → IsSession kept files s → Stay (files_saved k name s.world s.files) now
     → told ≡ record { reply = r; state = Some (state_in k s.world); woken = 0 } → r ≡ (save_answer k s.world).reply → text.items ≡ kept.text.items ++ told_line number told None
-    → IsSession (record { world = kept.world; text = text }) now (run_line number (Save k name) s)
+    → IsSession (record { world = kept.world; version = kept.version; text = text }) now (run_line number (Save k name) s)
 save-session kept number k name s files now told r text is stay t answer line = record {
   keeps = record {
     world = subst (λ (w : World). IsWorld kept.world w) (sym (world-save k s.world)) is.keeps.world;
+    version = is.keeps.version;
     text = save-text number k s.world told r kept.text.items s.text text.items t answer is.keeps.text line;
   };
   none_lost = is.none_lost;
@@ -331,19 +334,19 @@ on-behind (Err x) old added line new failed e same = tt
 -- ---- a space line answered
 
 space-answered : (number : ℕ) (m : Model) (box : Box) (k : Kept) (s : Session) (files : Option Files) (text : Vec ℕ Global) → IsSession k files s
-    → (answer : List ℕ) × IsAnswer m box answer × (text.items ≡ k.text.items ++ answer) → IsNext Refine number (Space m box) s (record { world = k.world; text = text }) files
+    → (answer : List ℕ) × IsAnswer m box answer × (text.items ≡ k.text.items ++ answer) → IsNext Refine number (Space m box) s (record { world = k.world; version = k.version; text = text }) files
 space-answered number m box k s files text is given = record {
   next = record s { text = s.text ++ given.0 };
   answers = (given.0, given.1, refl);
   session = record {
-    keeps = record { world = is.keeps.world; text = given.2 ∙ ap (λ (l : List ℕ). l ++ given.0) is.keeps.text };
+    keeps = record { world = is.keeps.world; version = is.keeps.version; text = given.2 ∙ ap (λ (l : List ℕ). l ++ given.0) is.keeps.text };
     none_lost = is.none_lost;
     shelf = is.shelf;
   };
 }
 
 pub next-of-space : (c : Command) (number : ℕ) (line : Line) (m : Model) (box : Box) (k : Kept) (s : Session) (files : Option Files) (text : Vec ℕ Global) → c ≡ Refine → line ≡ Space m box → IsSession k files s
-    → (answer : List ℕ) × IsAnswer m box answer × (text.items ≡ k.text.items ++ answer) → IsNext c number line s (record { world = k.world; text = text }) files
+    → (answer : List ℕ) × IsAnswer m box answer × (text.items ≡ k.text.items ++ answer) → IsNext c number line s (record { world = k.world; version = k.version; text = text }) files
 next-of-space c number line m box k s files text refine space is given =
-    subst (λ (x : Command). IsNext x number line s (record { world = k.world; text = text }) files) (sym refine)
-    (subst (λ (l : Line). IsNext Refine number l s (record { world = k.world; text = text }) files) (sym space) (space-answered number m box k s files text is given))
+    subst (λ (x : Command). IsNext x number line s (record { world = k.world; version = k.version; text = text }) files) (sym refine)
+    (subst (λ (l : Line). IsNext Refine number l s (record { world = k.world; version = k.version; text = text }) files) (sym space) (space-answered number m box k s files text is given))

@@ -32,7 +32,7 @@ use Rattle.pcm_base.specs.model.Events.{event, program, opens}
 use Rattle.pcm_base.specs.model.Frame.{Frame, bytes_of}
 use Rattle.pcm_base.specs.model.Group.{Run, run, behind, marked, mark, stream_of}
 use Rattle.pcm_base.specs.model.Movement.{Movement, move, taken_by, given_by, taken_bytes}
-use Rattle.pcm_base.specs.model.Sound.{Sound, SoundAt, is_set_up}
+use Rattle.pcm_base.specs.model.Sound.{Sound, SoundAt, may_be_set_up}
 use Rattle.pcm_base.specs.model.Standing.{put_at}
 use Rattle.pcm_base.specs.model.Program.{Program, Ends, Makes, fails}
 use Rattle.pcm_base.specs.model.Sleep.{wake, woken, group_drains, sleepers_that}
@@ -366,7 +366,7 @@ shows_taken e io s before taken h k = shows_by_call e.call (client_or_nobody e.c
 
 -- ---- a closed card has taken nothing
 
-closed_is_bare : (t : State) → is_closed t ≡ true → is_set_up t ≡ true → ⊥
+closed_is_bare : (t : State) → is_closed t ≡ true → may_be_set_up t ≡ true → ⊥
 closed_is_bare state.Closed h k = cc
 closed_is_bare _ h k = cc
 

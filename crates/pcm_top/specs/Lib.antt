@@ -5,5 +5,5 @@ pub mod Session
 pub mod Refine
 pub mod Run
 pub mod Script
-pub mod CodeSession
 pub mod Output
+pub mod CodeSession

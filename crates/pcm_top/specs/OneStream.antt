@@ -56,6 +56,7 @@ is_built_call call.PageNow = true
 is_built_call (call.MoveBy n) = true
 is_built_call call.Irq = true
 is_built_call (call.FailAt k) = true
+is_built_call call.Unplug = true
 is_built_call _ = false
 
 abbrev pub is_s0 : SubId → Bool

@@ -1,5 +1,5 @@
 -- What `run` does with a line: the transcript, and the files that are stored. This project's own.
-use Rattle.std.specs.Prelude.{ℕ, Bool, true, false, not, ◌&&◌, List, [], ◌++◌, min, ◌-◌, ◌^◌, if◌then◌else◌}
+use Rattle.std.specs.Prelude.{ℕ, Bool, true, false, not, ◌&&◌, ◌||◌, ◌==◌, List, [], ◌++◌, min, ◌-◌, ◌^◌, if◌then◌else◌}
 use Rattle.std.specs.List.{flat_map, range_with_len}
 use Rattle.std.specs.FinMap.{insert}
 use Rattle.std.specs.declared.option.Option.{Option}
@@ -18,7 +18,7 @@ use Rattle.pcm_base.specs.model.Words.{when, ◌then◌, is_playback, is_closed}
 use Rattle.pcm_base.specs.model.World.{World, Told, set_long, declare, is_declared, state_in, stays, step, stream_in}
 use Rattle.pcm_io.specs.Shelf.{Files}
 use Rattle.pcm_line.specs.declared.line.Line.{Line}
-use Rattle.pcm_line.specs.declared.line.Line.TheVariants.{LongMax, Card, Event, Save}
+use Rattle.pcm_line.specs.declared.line.Line.TheVariants.{LongMax, Card, Event, Save, Version}
 use Rattle.pcm_text.specs.End.{end_line}
 use Rattle.pcm_text.specs.Told.{told_line}
 use Rattle.card_emul.specs.Limits.{limits_of}
@@ -34,6 +34,11 @@ is_built (Event e bytes) = is_built_event e
 is_built (Save k name) = is_s0 k
 is_built _ = false
 
+-- so is the line in the place of this number: version 1 or 2 may stand as line 1
+abbrev pub is_built_at : ℕ → Line → Bool
+is_built_at number (Version n) = number == 1 && (n == 1 || n == 2)
+is_built_at number line = is_built line
+
 -- the line of this number tells a step
 abbrev pub tells : ℕ → Told → Option (List ℕ) → Session → Session
 tells number t bytes s = record s { world = t.world; text = s.text ++ told_line number (shown t) bytes }
@@ -42,6 +47,7 @@ tells number t bytes s = record s { world = t.world; text = s.text ++ told_line 
 abbrev pub is_wav_format : Format → Bool
 is_wav_format format.U8 = true
 is_wav_format format.S16Le = true
+is_wav_format format.S24Le = true
 is_wav_format format.S24Le3 = true
 is_wav_format format.S32Le = true
 is_wav_format _ = false
@@ -85,6 +91,7 @@ run_line number (LongMax n) s = tells number (set_long n s.world) None s
 run_line number (Card k model dir) s = tells number (declare k (limits_of model) dir s.world) None s
 run_line number (Event e bytes) s = let t = step s.world e bytes in tells number t (bytes_shown e.call t.bytes) s
 run_line number (Save k name) s = tells number (save_answer k s.world) None (record s { files = files_saved k name s.world s.files })
+run_line number (Version n) s = tells number (stays reply.Ok None s.world) None (record s { version = n })
 run_line number _ s = s
 
 -- the lines after the last line, one for each declared substream

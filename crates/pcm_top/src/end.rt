@@ -11,3 +11,11 @@ pub enum End {
     ScriptBytes,
     ShelfFault,
 }
+
+/// What cut a run short before the end of its script: a fault of the source or of the sink, or want of memory.
+#[derive(Clone, Copy, Debug, PartialEq, Eq)]
+pub enum Cut {
+    ReadFault,
+    WriteFault,
+    Memory,
+}

@@ -11,7 +11,6 @@ mod built;
 mod command;
 mod end;
 mod laws;
-mod lines;
 mod refine;
 mod save;
 mod script;
@@ -23,5 +22,5 @@ mod world;
 
 pub use command::Command;
 pub use end::End;
-pub use laws::one_output;
+pub use laws::{one_front, one_output, some_output};
 pub use top::pcm_main;

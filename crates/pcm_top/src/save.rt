@@ -15,7 +15,7 @@ fn is_wav_format(format: Format) -> bool
 {
     matches!(
         format,
-        Format::U8 | Format::S16Le | Format::S24Le3 | Format::S32Le
+        Format::U8 | Format::S16Le | Format::S24Le | Format::S24Le3 | Format::S32Le
     )
 }
 

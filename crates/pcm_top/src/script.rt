@@ -1,17 +1,24 @@
-// The lines of a script, executed one after another.
-ghost use Rattle.std.specs.Prelude.{◌≡◌, ◌≢◌, ◌≤◌, ◌+◌, None, true, IfOk, IfErr, OnErr, length};
+// The lines of a script, executed one after another as they are read.
+ghost use Rattle.std.specs.Prelude.{◌≡◌, ◌≢◌, ◌⊎◌, ◌<◌, ◌+◌, None, Some, true, IfOk, IfErr, IfSome, IfNone, OnErr, IsErrOf};
+ghost use Rattle.std.specs.declared.option.Option.{Option};
+ghost use Rattle.std.specs.Io.KnownBytes.{IsAtEnd};
 ghost use Rattle.pcm_base.specs.Causes.{Rose};
-ghost use Rattle.pcm_line.specs.Grammar.{IsLine};
-ghost use Rattle.pcm_top.specs.CodeSession.{IsRan, IsCutShort, IsStop};
-ghost use Rattle.pcm_top.specs.Script.{byte_limit, has, limit_for};
+ghost use Rattle.pcm_base.specs.model.World.{World as ModelWorld};
+ghost use Rattle.pcm_io.specs.Shelf.{Files};
+ghost use Rattle.pcm_line.specs.Grammar.{IsLine, LineFault};
+ghost use Rattle.pcm_line.specs.declared.error.LineError.TheVariants as line_error;
+ghost use Rattle.pcm_top.specs.declared.end.Cut.TheVariants as cut_by;
+ghost use Rattle.pcm_top.specs.CodeSession.{IsSession, HasPassed, HasEnded, HasLacked, IsRan, IsRanToFault, IsRanShort, IsNoLine};
+ghost use Rattle.pcm_top.specs.OneStream.{IsWorld};
+ghost use Rattle.pcm_top.specs.Script.{has, misplaced as misplaced_of};
+ghost use Rattle.pcm_top.specs.Session.{Session as Come, begin};
 
-use crate::built::is_built;
+use crate::built::is_built_at;
 use crate::command::Command;
-use crate::end::End;
-use crate::lines::{first_line, is_last_line};
+use crate::end::{Cut, End};
 use crate::session::{Session, answer_line, close};
-use pcm_io::{Shelf, ShelfError};
-use pcm_line::{Line, LineError, read_line};
+use pcm_io::{Lines, ReadEnd, Shelf, ShelfError, Sink, Source, write_pieces};
+use pcm_line::{Line, LineError, is_skipped, read_line};
 use std::alloc::{AllocError, Global};
 
 /// The most lines of a script.
@@ -20,96 +27,145 @@ pub const LINE_LIMIT: u64 = 1_048_576;
 /// The most bytes of a script.
 pub const BYTE_LIMIT: usize = 67_108_864;
 
-/// What a script wrote, and how it ended.
-#[derive(Drop)]
-pub struct Ran {
-    pub text: Vec<u8>,
-    pub ended: End,
-}
-
-// Whether the command has the line. `run` has the lines of the one playback substream s0 that are built.
-fn has_line(command: Command, line: &Line) -> bool
-    ensures { result ≡ has command line.now }
+// Whether the command has the line in the place of this number. `run` has the lines of the one playback substream s0 that
+// are built.
+fn has_line(command: Command, number: u64, line: &Line) -> bool
+    ensures { result ≡ has command number line.now }
 {
     match command {
-        Command::Run => is_built(line),
+        Command::Run => is_built_at(number, line),
         Command::Refine => matches!(line, Line::Space(..)),
     }
 }
 
-// The line of the command after so many lines, or how the script ends there.
-fn line_at(
+// What is wrong in a line that the command does not have in the place of this number.
+fn misplaced(command: Command, number: u64, line: &Line) -> LineError
+    ensures { result ≡ misplaced_of command number line.now }
+{
+    match (command, line) {
+        (Command::Run, Line::Version(_)) if number == 1 => LineError::Number(8),
+        _ => LineError::Word(0),
+    }
+}
+
+// The line of the command that was read in the place of this number, or why it is none of the command.
+fn line_at<'a>(
+    command: Command,
+    number: u64,
+    bytes: &[u8],
+    read: &'a Result<Line, LineError>,
+) -> Result<Result<&'a Line, End>, AllocError>
+    requires says { IfOk read.now (λ line. IsLine bytes.now line) }
+    requires faulty { IfErr read.now (λ e. (e ≡ line_error.Memory) ⊎ LineFault bytes.now e) }
+    ensures line { IfOk result (λ r. IfOk r (λ line. IsLine bytes.now line.now)) }
+    ensures has { IfOk result (λ r. IfOk r (λ line. has command number line.now ≡ true)) }
+    ensures stop { IfOk result (λ r. IfErr r (λ ended. IsNoLine command number bytes.now ended)) }
+{
+    match read {
+        Ok(line) if has_line(command, number, line) => Ok(Ok(line)),
+        Ok(line) => Ok(Err(End::BadLine(number, misplaced(command, number, line)))),
+        Err(LineError::Memory) => Err(AllocError),
+        Err(fault) => Ok(Err(End::BadLine(number, *fault))),
+    }
+}
+
+// Executes the line of these bytes, before which there are so many, and which may hold the byte past the limit, or skips it;
+// or tells how the script ends there. An error comes for want of memory alone.
+fn answer_bytes<F: Shelf>(
     alloc: Global,
     command: Command,
     count: u64,
     last: bool,
     bytes: &[u8],
-) -> Result<Result<Line, End>, AllocError>
-    requires { count ≤ LINE_LIMIT }
-    ensures limit { IfOk result (λ r. IfOk r (λ _. limit_for last count ≡ None)) }
-    ensures line { IfOk result (λ r. IfOk r (λ line. IsLine bytes.now line)) }
-    ensures has { IfOk result (λ r. IfOk r (λ line. has command line ≡ true)) }
-    ensures stop { IfOk result (λ r. IfErr r (λ ended. IsStop command last count bytes.now ended)) }
+    session: &mut Session,
+    shelf: &mut F,
+) -> Result<Option<End>, AllocError>
+    requires few { count < LINE_LIMIT }
+    // The world stands for some world of the model, as that of each session does: a save asks it.
+    requires stands { (w : ModelWorld) × IsWorld session.old.world w }
+    ensures passed { (s : Come) → IsSession session.old (F.files shelf.old) s → IfOk result (λ r. IfNone r (HasPassed command last count bytes.now s session.new (F.files shelf.new))) }
+    ensures ended { (s : Come) → IsSession session.old (F.files shelf.old) s → IfOk result (λ r. IfSome r (λ ended. HasEnded command last count bytes.now s session.new.text.items (F.files shelf.new) ended)) }
+    ensures lacked { (s : Come) → IsSession session.old (F.files shelf.old) s → OnErr result (HasLacked command last count bytes.now s (F.files shelf.new)) }
+
+    // A fault of the shelf is the one cause of ShelfFault.
+    ensures rose { IfOk result (λ r. r ≡ Some End.ShelfFault → Rose (F.faults shelf.old) (F.faults shelf.new)) }
+    ensures calm { IfOk result (λ r. r ≢ Some End.ShelfFault → F.faults shelf.new ≡ F.faults shelf.old) }
+    ensures kept { OnErr result (F.faults shelf.new ≡ F.faults shelf.old) }
 {
-    if count == LINE_LIMIT {
-        return Ok(Err(End::ScriptLines));
-    }
     if last {
-        return Ok(Err(End::ScriptBytes));
+        return Ok(Some(End::ScriptBytes));
     }
-    match read_line(alloc, bytes) {
-        Ok(line) if has_line(command, &line) => Ok(Ok(line)),
-        Ok(_) => Ok(Err(End::BadLine(count + 1, LineError::Word(0)))),
-        Err(LineError::Memory) => Err(AllocError),
-        Err(fault) => Ok(Err(End::BadLine(count + 1, fault))),
+    if is_skipped(session.version, bytes) {
+        return Ok(None);
+    }
+    let read = read_line(alloc, bytes);
+    let line = match line_at(command, count + 1, bytes, &read)? {
+        Ok(line) => line,
+        Err(ended) => return Ok(Some(ended)),
+    };
+    match answer_line(alloc, command, count + 1, line, session, shelf) {
+        Ok(()) => Ok(None),
+        Err(ShelfError::Failed) => Ok(Some(End::ShelfFault)),
+        Err(ShelfError::Memory) => Err(AllocError),
     }
 }
 
-/// Executes the lines of a script, or of its front up to the first byte past 67,108,864. It ends at the first line that is
-/// the 1,048,577th, or holds the byte past the limit, or is none of the command, or whose file is not stored; the answers
-/// of the lines before stand in the text. An error comes for want of memory alone. This project's own.
-pub fn run_script<F: Shelf>(
+/// Executes the lines of the source's script, or of its front up to the first byte past 67,108,864, each as soon as it is
+/// read, and writes the answers in whole pieces as soon as they are gathered; the rest stands in the session's text. It ends
+/// at the first line that is the 1,048,577th, or holds the byte past the limit, or is none of the command, or whose file is
+/// not stored. This project's own.
+pub fn run_lines<S: Source, K: Sink, F: Shelf>(
     alloc: Global,
     command: Command,
-    script: &[u8],
+    source: &mut S,
+    session: &mut Session,
+    out: &mut K,
     shelf: &mut F,
-) -> Result<Ran, AllocError>
-    requires { length script.now ≤ byte_limit + 1 }
-    ensures ran { IfOk result (λ r. IsRan command script.now (F.files shelf.old) (F.files shelf.new) r.text.items r.ended) }
-    ensures cut { OnErr result (IsCutShort command script.now (F.files shelf.old) (F.files shelf.new)) }
+) -> Result<End, Cut>
+    requires { (files : Option Files) → IsSession session.old files (begin files) }
+    ensures ran { IfOk result (λ ended. IfSome (S.left source.old) (λ script. IsRan command script (F.files shelf.old) (F.files shelf.new) (K.written out.old) (K.written out.new) session.new.text.items ended)) }
+    ensures faulted { result ≡ Err cut_by.ReadFault → IfSome (S.left source.old) (λ script. IsRanToFault command script (S.left source.new) (F.files shelf.old) (F.files shelf.new) (K.written out.old) (K.written out.new) session.new.text.items) }
+    ensures cut { result ≢ Err cut_by.ReadFault → OnErr result (IfSome (S.left source.old) (λ script. IsRanShort command script (F.files shelf.old) (F.files shelf.new) (K.written out.old) (K.written out.new))) }
+    ensures end { result ≡ Ok End.Whole → IsAtEnd (S.left source.new) }
 
-    // A fault of the shelf is the one cause of ShelfFault.
-    ensures rose { IfOk result (λ r. r.ended ≡ End.ShelfFault → Rose (F.faults shelf.old) (F.faults shelf.new)) }
-    ensures calm { IfOk result (λ r. r.ended ≢ End.ShelfFault → F.faults shelf.new ≡ F.faults shelf.old) }
-    ensures kept { OnErr result (F.faults shelf.new ≡ F.faults shelf.old) }
+    // A fault is the one cause of each of the three.
+    ensures read { result ≡ Err cut_by.ReadFault → Rose (S.faults source.old) (S.faults source.new) }
+    ensures calm_source { result ≢ Err cut_by.ReadFault → S.faults source.new ≡ S.faults source.old }
+    ensures write { result ≡ Err cut_by.WriteFault → Rose (K.faults out.old) (K.faults out.new) }
+    ensures calm_sink { result ≢ Err cut_by.WriteFault → K.faults out.new ≡ K.faults out.old }
+    ensures store { result ≡ Ok End.ShelfFault → Rose (F.faults shelf.old) (F.faults shelf.new) }
+    ensures calm_shelf { result ≢ Ok End.ShelfFault → F.faults shelf.new ≡ F.faults shelf.old }
 {
-    let over = script.len() > BYTE_LIMIT;
-    let mut session = Session::new(alloc);
+    let mut lines = Lines::new(alloc, BYTE_LIMIT + 1);
     let mut count: u64 = 0;
-    let mut rest = script;
-    'lines: while !rest.is_empty() {
-        let (bytes, after) = first_line(rest);
-        let line = match line_at(alloc, command, count, is_last_line(over, after), bytes)? {
-            Ok(line) => line,
-            Err(ended) => {
-                let text = session.text;
-                return Ok(Ran { text, ended });
-            }
-        };
-        count += 1;
-        match answer_line(alloc, command, count, &line, &mut session, shelf) {
-            Ok(()) => {}
-            Err(ShelfError::Failed) => {
-                let ended = End::ShelfFault;
-                let text = session.text;
-                return Ok(Ran { text, ended });
-            }
-            Err(ShelfError::Memory) => return Err(AllocError),
+    'lines: loop {
+        match lines.has_more(source) {
+            Ok(true) => {}
+            Ok(false) => break,
+            Err(_) => return Err(Cut::ReadFault),
         }
-        rest = after;
+        if count == LINE_LIMIT {
+            return Ok(End::ScriptLines);
+        }
+        match lines.next_line(source) {
+            Ok(()) => {}
+            Err(ReadEnd::Failed) => return Err(Cut::ReadFault),
+            Err(ReadEnd::Memory) => return Err(Cut::Memory),
+        }
+        let last = lines.is_used_up();
+        match answer_bytes(alloc, command, count, last, lines.line(), session, shelf) {
+            Ok(None) => {}
+            Ok(Some(ended)) => return Ok(ended),
+            Err(_) => return Err(Cut::Memory),
+        }
+        count += 1;
+        match write_pieces(out, &mut session.text) {
+            Ok(()) => {}
+            Err(_) => return Err(Cut::WriteFault),
+        }
     }
-    close(alloc, command, &mut session)?;
-    let ended = End::Whole;
-    let text = session.text;
-    Ok(Ran { text, ended })
+    match close(alloc, command, session) {
+        Ok(()) => Ok(End::Whole),
+        Err(_) => Err(Cut::Memory),
+    }
 }

@@ -9,7 +9,7 @@ ghost use Rattle.pcm_top.specs.declared.command.Command.TheVariants.{Run};
 ghost use Rattle.pcm_top.specs.declared.end.End.TheVariants.{Whole};
 ghost use Rattle.pcm_top.specs.CodeSession.{IsSession, IsNext, IsStopped, IsCut, Keeps};
 ghost use Rattle.pcm_top.specs.OneStream.{IsWorld, is_built_event, bytes_shown, moved_in};
-ghost use Rattle.pcm_top.specs.Run.{is_built, run_line as run_line_of, files_saved, save_answer, save_refusal, end_line_of, end_lines};
+ghost use Rattle.pcm_top.specs.Run.{is_built, is_built_at, run_line as run_line_of, files_saved, save_answer, save_refusal, end_line_of, end_lines};
 ghost use Rattle.pcm_top.specs.Script.{closing, has};
 ghost use Rattle.pcm_top.specs.Session.{Session as Come, begin};
 
@@ -26,10 +26,11 @@ use std::alloc::{AllocError, Global};
 /// The most substreams.
 const SUBSTREAMS: u8 = 16;
 
-/// The world, and the text of the answers so far.
+/// The world, the version of the script, and the text of the answers so far.
 #[derive(Drop)]
 pub struct Session {
     pub world: World,
+    pub version: u64,
     pub text: Vec<u8>,
 }
 
@@ -40,6 +41,7 @@ impl Session {
     {
         Session {
             world: World::new(alloc),
+            version: 1,
             text: Vec::new(alloc),
         }
     }
@@ -73,6 +75,19 @@ fn long_line(number: u64, n: u64, session: &mut Session) -> Result<(), AllocErro
 {
     let told = Told {
         reply: session.world.set_long(n),
+        state: None,
+        woken: 0,
+    };
+    push_told(&mut session.text, number, &told, None)
+}
+
+// The version of the script, which names no substream.
+fn version_line(number: u64, n: u64, session: &mut Session) -> Result<(), AllocError>
+    ensures { (s : Come) → Keeps session.old s → OnOk result (Keeps session.new (run_line_of number (line_of.Version n) s)) }
+{
+    session.version = n;
+    let told = Told {
+        reply: Reply::Ok,
         state: None,
         woken: 0,
     };
@@ -180,7 +195,7 @@ fn run_line<F: Shelf>(
     session: &mut Session,
     shelf: &mut F,
 ) -> Result<(), ShelfError>
-    requires built { is_built line.now ≡ true }
+    requires built { is_built_at number line.now ≡ true }
     requires stands { (w : ModelWorld) × IsWorld session.old.world w }
     ensures ok { (s : Come) → IsSession session.old (F.files shelf.old) s → OnOk result (IsSession session.new (F.files shelf.new) (run_line_of number line.now s)) }
     ensures failed { (s : Come) → IsSession session.old (F.files shelf.old) s → IsErrOf result Failed → IsStopped Run line.now s session.new.text.items (F.files shelf.new) }
@@ -188,6 +203,7 @@ fn run_line<F: Shelf>(
     ensures cause { HasShelfCause (F.faults shelf.old) (F.faults shelf.new) result }
 {
     match line {
+        Line::Version(n) => version_line(number, *n, session)?,
         Line::LongMax(n) => long_line(number, *n, session)?,
         Line::Card(sub, model, dir) => card_line(number, *sub, *model, *dir, session)?,
         Line::Event(event, bytes) => event_line(number, event, bytes, session)?,
@@ -206,7 +222,7 @@ pub fn answer_line<F: Shelf>(
     session: &mut Session,
     shelf: &mut F,
 ) -> Result<(), ShelfError>
-    requires has { has command line.now ≡ true }
+    requires has { has command number line.now ≡ true }
     // The world stands for some world of the model, as that of each session does: a save asks it.
     requires stands { (w : ModelWorld) × IsWorld session.old.world w }
     ensures ok { (s : Come) → IsSession session.old (F.files shelf.old) s → OnOk result (IsNext command number line.now s session.new (F.files shelf.new)) }

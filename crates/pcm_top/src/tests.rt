@@ -1,7 +1,8 @@
 // The call over memory: worked scripts, and what the outside may do to a run.
 use super::*;
 use pcm_base::Name;
-use pcm_io::{MemShelf, MemSink, MemSource, Shelf};
+use pcm_io::{MemShelf, MemSink, MemSource, Shelf, Source};
+use pcm_text::fault_text;
 use std::alloc::{AllocError, Global};
 use std::process::Abort;
 use std::test::Fail;
@@ -90,6 +91,30 @@ fn is_text(out: &[u8], first: &str, second: &str) -> bool {
     out.strip_prefix(first.as_bytes()) == Some(second.as_bytes())
 }
 
+// The transcript of a script, and the line that tells why it ended.
+fn told(alloc: Global, word: &str, script: &str) -> Result<(Vec<u8>, String), Fail> {
+    let mut words = Vec::new(alloc);
+    words.push(String::from_str(alloc, word)?)?;
+    let none = Vec::new(alloc);
+    let mut source = MemSource::new(script.as_bytes().to_vec(alloc)?, none, 64);
+    let mut out = MemSink::new(alloc, Vec::new(alloc));
+    let mut shelf = MemShelf::new(alloc, Vec::new(alloc));
+    let status = pcm_main(alloc, &words, &mut source, &mut out, &mut shelf);
+    Ok((out.bytes().to_vec(alloc)?, fault_text(alloc, &status)?))
+}
+
+// The first so many lines of a text.
+fn first_lines(text: &[u8], count: usize) -> &[u8] {
+    let mut rest = text;
+    for _ in 0..count {
+        match rest.iter().position(|b| *b == b'\n') {
+            Some(at) => rest = &rest[at + 1..],
+            None => return text,
+        }
+    }
+    &text[..text.len().saturating_sub(rest.len())]
+}
+
 #[test]
 fn a_transcript_tells_each_answer(rt: HostRuntime) -> Result<(), Fail> {
     for (lines, told) in [
@@ -138,6 +163,11 @@ fn a_transcript_tells_each_answer(rt: HostRuntime) -> Result<(), Fail> {
             "sw c0 s0 0 1 4 0 0\nstart c0 s0\nhwfree c0 s0\npoll c0 s0\nsw c0 s0 1 1 4 0 0\nclose c0 s0\nopen c1 s0\n",
             "5 err EINVAL 22 PREPARED\n6 err EPIPE 32 PREPARED\n7 ok OPEN\n8 poll error OPEN\n9 err EBADFD 77 OPEN\n10 ok CLOSED\n11 ok OPEN\nend s0 OPEN hw 0 appl 0 moved 0\n",
         ),
+        // A card is unplugged: the substream is closed and opened again.
+        (
+            "writei c0 s0 n 0102\nunplug s0\nprepare c0 s0\npoll c0 s0\npage c0 s0\nunplug s0\nclose c0 s0\nopen c0 s0\n",
+            "5 frames 2 RUNNING\n6 ok DISCONNECTED\n7 err EBADFD 77 DISCONNECTED\n8 poll error DISCONNECTED\n9 ptrs hw 0 appl 2 avail 2 DISCONNECTED\n10 err EBADFD 77 DISCONNECTED\n11 ok CLOSED\n12 ok OPEN\nend s0 OPEN hw 0 appl 0 moved 0\n",
+        ),
         // A configuration that the model does not allow.
         (
             "hw c0 s0 RW_INTERLEAVED S32_BE 1 8000 2 2\npage c0 s0\n",
@@ -167,6 +197,12 @@ fn a_script_may_begin_otherwise(rt: HostRuntime) -> Result<(), Fail> {
             0,
             "1 err ENXIO 6 CLOSED\n2 err ENXIO 6 CLOSED\n3 ok CLOSED\n4 err ENXIO 6 CLOSED\n5 err EBUSY 16 -\n6 err EBUSY 16 CLOSED\n7 ok OPEN\n8 err EBUSY 16 OPEN\n9 err EBADFD 77 OPEN\n10 idle OPEN\n11 err EINVAL 22 OPEN\nend s0 OPEN hw 0 appl 0 moved 0\n",
         ),
+        // Unplugged when open, it has no configuration.
+        (
+            "card s0 basic p\nopen c0 s0\nunplug s0\nwritei c0 s0 n 01\nstatus c0 s0\nclose c0 s0\n",
+            0,
+            "1 ok CLOSED\n2 ok OPEN\n3 ok DISCONNECTED\n4 err EBADFD 77 DISCONNECTED\n5 ptrs hw 0 appl 0 avail 0 DISCONNECTED\n6 ok CLOSED\nend s0 CLOSED hw 0 appl 0 moved 0\n",
+        ),
         // LONG_MAX is too small for four buffers.
         (
             "long 14\nlong 15\ncard s0 basic p\nopen c0 s0\nhw c0 s0 RW_INTERLEAVED U8 1 8000 2 2\n",
@@ -184,10 +220,16 @@ fn a_script_may_begin_otherwise(rt: HostRuntime) -> Result<(), Fail> {
             0,
             "1 ok -\n2 ok CLOSED\n3 ok OPEN\n4 ok SETUP\n5 ok PREPARED\n6 ok PREPARED\n7 frames 4 RUNNING\n8 moved 3 010203 RUNNING\n9 ok RUNNING\n10 moved 3 048080 RUNNING\n11 ok RUNNING\nend s0 RUNNING hw 6 appl 4 moved 6\n",
         ),
+        // A card with an indirect buffer.
+        (
+            "card s0 indirect p\nopen c0 s0\nhw c0 s0 RW_INTERLEAVED U8 1 8000 2 2\nprepare c0 s0\nwritei c0 s0 n 01020304\nmove s0 3\nirq s0\nstatus c0 s0\n",
+            0,
+            "1 ok CLOSED\n2 ok OPEN\n3 ok SETUP\n4 ok PREPARED\n5 frames 4 RUNNING\n6 moved 3 010203 RUNNING\n7 ok RUNNING\n8 ptrs hw 3 appl 4 avail 3 RUNNING\nend s0 RUNNING hw 3 appl 4 moved 3\n",
+        ),
         // Lines with a fault, and lines that are not built.
         ("card s0 basic p\nopen c0\n", 2, "1 ok CLOSED\n"),
         ("card s0 basic p\n\n", 2, "1 ok CLOSED\n"),
-        ("card s0 basic p\nunplug s0\n", 2, "1 ok CLOSED\n"),
+        ("card s0 basic p\ngive s0 01\n", 2, "1 ok CLOSED\n"),
         ("card s0 basic p\ncard s1 basic p\n", 2, "1 ok CLOSED\n"),
         ("card s0 basic c\n", 2, ""),
         ("space basic 8 4 2 2 1 200000 1 65536 2 32 4 65536\n", 2, ""),
@@ -197,6 +239,74 @@ fn a_script_may_begin_otherwise(rt: HostRuntime) -> Result<(), Fail> {
         assert_eq!(rt; ran.out.as_slice(), told.as_bytes());
         assert!(rt; ran.file.is_none());
     }
+    Ok(())
+}
+
+// Each script with its transcript, and why it ended.
+#[test]
+fn a_script_has_a_version(rt: HostRuntime) -> Result<(), Fail> {
+    for (word, lines, transcript, fault) in [
+        (
+            "run",
+            "version 2\n# four frames\n\ncard s0 basic p\n",
+            "1 ok -\n4 ok CLOSED\nend s0 CLOSED hw 0 appl 0 moved 0\n",
+            "",
+        ),
+        ("run", "version 1\n\n", "1 ok -\n", "bad line 2: word at 0"),
+        ("run", "version 3\n", "", "bad line 1: number at 8"),
+        ("run", "version 0\n", "", "bad line 1: number at 8"),
+        ("run", "version 02\n", "", "bad line 1: number at 8"),
+        ("run", "version\n", "", "bad line 1: short"),
+        ("run", "# no version\n", "", "bad line 1: word at 0"),
+        (
+            "run",
+            "long 31\nversion 2\n",
+            "1 ok -\n",
+            "bad line 2: word at 0",
+        ),
+        (
+            "run",
+            "version 2\n\nversion 3\n",
+            "1 ok -\n",
+            "bad line 3: word at 0",
+        ),
+        (
+            "run",
+            "version 2\n #\n",
+            "1 ok -\n",
+            "bad line 2: word at 0",
+        ),
+        ("refine", "version 2\n", "", "bad line 1: word at 0"),
+        ("refine", "\n", "", "bad line 1: word at 0"),
+        // Forms of other programs, and of a world of more substreams.
+        ("run", "carry s0 s1\n", "", "bad line 1: word at 0"),
+        ("run", "carry s0\n", "", "bad line 1: short"),
+        ("run", "wire s0 s1\n", "", "bad line 1: word at 0"),
+        ("run", "beat s0 1 1\n", "", "bad line 1: word at 0"),
+        ("run", "beat s0 x\n", "", "bad line 1: number at 8"),
+        ("run", "threads\n", "", "bad line 1: word at 0"),
+        ("run", "join\n", "", "bad line 1: word at 0"),
+    ] {
+        let (out, text) = told(rt.alloc(), word, lines)?;
+        assert_eq!(rt; out.as_slice(), transcript.as_bytes());
+        assert_eq!(rt; text.as_str(), fault);
+    }
+    Ok(())
+}
+
+// The file of one frame of four bytes, of which three are used.
+const WIDE: &[u8] =
+    b"RIFF\x40\0\0\0WAVEfmt \x28\0\0\0\xfe\xff\x01\0\x40\x1f\0\0\0\x7d\0\0\x04\0\x20\0\x16\0\x18\0\0\0\0\0\x01\0\0\0\0\0\x10\0\x80\0\0\xaa\0\x38\x9b\x71data\x04\0\0\0\0\x01\x02\x03";
+
+#[test]
+fn samples_of_three_bytes_in_four_are_saved(rt: HostRuntime) -> Result<(), Fail> {
+    let opened =
+        "card s0 duplex p\nopen c0 s0\nhw c0 s0 RW_INTERLEAVED S24_LE 1 8000 2 2\nprepare c0 s0\n";
+    let lines = "writei c0 s0 n 010203ff\nmove s0 1\nsave s0 out.wav\n";
+    let ran = run(&rt, rt.alloc(), &script(opened, lines))?;
+    assert_eq!(rt; ran.status, 0);
+    let file = ran.file.expect(&rt, "a file");
+    assert_eq!(rt; file.as_slice(), WIDE);
     Ok(())
 }
 
@@ -218,27 +328,23 @@ fn pointers_wrap_at_the_boundary(rt: HostRuntime) -> Result<(), Fail> {
     Ok(())
 }
 
-// The first script, the file that it saves, and each call of the outside that fails in turn.
+// The first script, the file that it saves, and each call of the outside that fails in turn. The source gives 64 bytes a
+// read, and `told` is the count of lines of the transcript that are written.
 #[test]
 fn a_status_names_what_failed(rt: HostRuntime) -> Result<(), Fail> {
     let saved = "writei c0 s0 n 01020304\nmove s0 3\nirq s0\nstatus c0 s0\nsave s0 out.wav\n";
-    for (read, write, shelf, status, told, end, stored) in [
-        (
-            0,
-            0,
-            0,
-            0,
-            FIRST_TOLD,
-            "9 ok RUNNING\nend s0 RUNNING hw 3 appl 4 moved 3\n",
-            true,
-        ),
-        (1, 0, 0, 3, "", "", false),
-        (2, 0, 0, 3, "", "", false),
-        (3, 0, 0, 3, "", "", false),
-        (4, 0, 0, 3, "", "", false),
-        (0, 1, 0, 4, "", "", true),
-        (0, 0, 2, 5, FIRST_TOLD, "", false),
-        (0, 1, 2, 4, "", "", false),
+    let alloc = rt.alloc();
+    let whole = run(&rt, alloc, &script(OPENED, saved))?;
+    for (read, write, shelf, status, told, stored) in [
+        (0, 0, 0, 0, 10, true),
+        (1, 0, 0, 3, 0, false),
+        (2, 0, 0, 3, 2, false),
+        (3, 0, 0, 3, 7, false),
+        (4, 0, 0, 3, 9, true),
+        (2, 1, 0, 4, 0, false),
+        (0, 1, 0, 4, 0, true),
+        (0, 0, 2, 5, 8, false),
+        (0, 1, 2, 4, 0, false),
     ] {
         let calls = Calls {
             word: "run",
@@ -248,23 +354,59 @@ fn a_status_names_what_failed(rt: HostRuntime) -> Result<(), Fail> {
             write,
             shelf,
         };
-        let ran = run(&rt, rt.alloc(), &calls)?;
+        let ran = run(&rt, alloc, &calls)?;
         assert_eq!(rt; ran.status, status);
         assert!(rt; ran.stays);
         assert_eq!(rt; ran.file.is_some(), stored);
         if let Some(file) = &ran.file {
             assert_eq!(rt; file.as_slice(), SAVED);
         }
-        if told.is_empty() {
-            assert!(rt; ran.out.is_empty());
-        } else {
-            let rest = ran
-                .out
-                .strip_prefix(OPENED_TOLD.as_bytes())
-                .expect(&rt, "the first lines");
-            assert!(rt; is_text(rest, told, end));
-        }
+        assert_eq!(rt; ran.out.as_slice(), first_lines(&whole.out, told));
     }
+    let lines = first_lines(&whole.out, 8);
+    assert!(rt; is_text(lines, OPENED_TOLD, FIRST_TOLD));
+    Ok(())
+}
+
+// Of a transcript of 13,000 bytes the second piece is not written.
+#[test]
+fn a_transcript_is_written_in_pieces(rt: HostRuntime) -> Result<(), Fail> {
+    let alloc = rt.alloc();
+    let mut lines = Vec::new(alloc);
+    for _ in 0..500 {
+        lines.extend_from_slice(b"page c0 s0\n")?;
+    }
+    let lines = String::from_utf8(lines).expect(&rt, "text");
+    let whole = run(&rt, alloc, &script(OPENED, lines.as_str()))?;
+    assert_eq!(rt; whole.status, 0);
+    for write in 1..5 {
+        let mut calls = script(OPENED, lines.as_str());
+        calls.write = write;
+        let ran = run(&rt, alloc, &calls)?;
+        assert_eq!(rt; ran.status, 4);
+        assert_eq!(rt; ran.out.len() as u64, 4096 * (write - 1));
+        assert!(rt; whole.out.starts_with(&ran.out));
+    }
+    Ok(())
+}
+
+// The write of the second piece fails while lines are still to be read.
+#[test]
+fn answers_are_written_before_the_script_ends(rt: HostRuntime) -> Result<(), Fail> {
+    let alloc = rt.alloc();
+    let mut bytes = OPENED.as_bytes().to_vec(alloc)?;
+    for _ in 0..1000 {
+        bytes.extend_from_slice(b"page c0 s0\n")?;
+    }
+    let mut words = Vec::new(alloc);
+    words.push(String::from_str(alloc, "run")?)?;
+    let mut source = MemSource::new(bytes, Vec::new(alloc), 64);
+    let mut out = MemSink::new(alloc, [2].to_vec(alloc)?);
+    let mut shelf = MemShelf::new(alloc, Vec::new(alloc));
+    let status = pcm_main(alloc, &words, &mut source, &mut out, &mut shelf);
+    assert_eq!(rt; status.number(), 4);
+    assert_eq!(rt; out.bytes().len(), 4096);
+    assert_eq!(rt; source.read(&mut [0; 64]), Ok(64));
     Ok(())
 }
 
@@ -280,7 +422,15 @@ fn a_space_is_cut_to_what_the_model_allows(rt: HostRuntime) -> Result<(), Fail> 
         ("play", SPACES, 1, 1, 1, ""),
         ("refine", "space basic 8\n", 0, 0, 2, ""),
         ("refine", "card s0 basic p\n", 0, 0, 2, ""),
-        ("refine", SPACES, 2, 0, 3, ""),
+        ("refine", SPACES, 1, 0, 3, ""),
+        (
+            "refine",
+            SPACES,
+            2,
+            0,
+            3,
+            "space basic 8 4 2 2 8000 48000 1 8192 2 32 4 16384\n",
+        ),
         ("refine", SPACES, 0, 1, 4, ""),
     ] {
         let calls = Calls {

@@ -1,15 +1,16 @@
 // All that the program does.
-ghost use Rattle.std.specs.Prelude.{◌≡◌, ◌≢◌, ◌↔◌, map, true, false, None, IfOk, OnErr, IsErrOf, IfSome, string_bytes};
+ghost use Rattle.std.specs.Prelude.{◌≡◌, ◌≢◌, ◌↔◌, ◌⊎◌, map, true, false, None, IfOk, OnErr, IsErrOf, IfSome, string_bytes};
 ghost use Rattle.std.specs.Io.KnownBytes.{IsAtEnd};
 ghost use Rattle.pcm_base.specs.Causes.{Rose};
-ghost use Rattle.pcm_top.specs.CodeSession.{IsRan, IsCutShort};
-ghost use Rattle.pcm_top.specs.Script.{script_front};
-ghost use Rattle.pcm_top.specs.Output.{asked, status_of as ends_with, was_cut, is_given, IsOutput, IsFront};
+ghost use Rattle.pcm_top.specs.declared.end.Cut.TheVariants as cut_by;
+ghost use Rattle.pcm_top.specs.Output.{asked, status_of as ends_with, was_cut, is_given, IsOutput, IsFrontRun, IsUpToFault};
+ghost use Rattle.pcm_top.specs.Script.{IsScript};
 
 use crate::command::{Command, command_of};
-use crate::end::End;
-use crate::script::{BYTE_LIMIT, LINE_LIMIT, Ran, run_script};
-use pcm_io::{ReadEnd, Shelf, Sink, Source, read_to_limit, write_all};
+use crate::end::{Cut, End};
+use crate::script::{BYTE_LIMIT, LINE_LIMIT, run_lines};
+use crate::session::Session;
+use pcm_io::{Shelf, Sink, Source, write_rest};
 use pcm_text::{Status, Which};
 use std::alloc::Global;
 
@@ -25,25 +26,37 @@ fn status_of(ended: End) -> Status
     }
 }
 
-fn run_source<S: Source, F: Shelf>(
+// Runs the source's script, and writes what is then gathered.
+fn run_source<S: Source, K: Sink, F: Shelf>(
     alloc: Global,
     command: Command,
     source: &mut S,
+    out: &mut K,
     shelf: &mut F,
-) -> Result<Ran, ReadEnd>
-    ensures ran { IfOk result (λ r. IfSome (S.left source.old) (λ script. IsRan command (script_front script) (F.files shelf.old) (F.files shelf.new) r.text.items r.ended)) }
-    ensures ended { IfOk result (λ r. r.ended ≡ End.Whole → IsAtEnd (S.left source.new)) }
-    ensures failed { IsErrOf result ReadEnd.Failed → (F.files shelf.new ≡ F.files shelf.old) × Rose (S.faults source.old) (S.faults source.new) }
-    ensures memory { IsErrOf result ReadEnd.Memory → IfSome (S.left source.old) (λ script. IsCutShort command (script_front script) (F.files shelf.old) (F.files shelf.new)) }
-    ensures calm_source { result ≢ Err ReadEnd.Failed → S.faults source.new ≡ S.faults source.old }
-    ensures rose { IfOk result (λ r. r.ended ≡ End.ShelfFault → Rose (F.faults shelf.old) (F.faults shelf.new)) }
-    ensures calm_shelf { IfOk result (λ r. r.ended ≢ End.ShelfFault → F.faults shelf.new ≡ F.faults shelf.old) }
-    ensures kept { OnErr result (F.faults shelf.new ≡ F.faults shelf.old) }
+) -> Result<End, Cut>
+    ensures ran { IfOk result (λ ended. IfSome (S.left source.old) (λ script. IsOutput command script (F.files shelf.old) (F.files shelf.new) (K.written out.old) (K.written out.new) (ends_with ended))) }
+    ensures front { IfSome (S.left source.old) (λ script. IsFrontRun command script (F.files shelf.old) (F.files shelf.new) (F.faults shelf.old) (F.faults shelf.new) (K.written out.old) (K.written out.new)) }
+    ensures faulted { result ≡ Err cut_by.ReadFault → IfSome (S.left source.old) (λ script. IsUpToFault command script (S.left source.new) (F.files shelf.old) (F.files shelf.new) (K.written out.old) (K.written out.new)) }
+    ensures end { result ≡ Ok End.Whole → IsAtEnd (S.left source.new) }
+    ensures read { result ≡ Err cut_by.ReadFault → Rose (S.faults source.old) (S.faults source.new) }
+    ensures calm_source { result ≢ Err cut_by.ReadFault → result ≢ Err cut_by.WriteFault → S.faults source.new ≡ S.faults source.old }
+    ensures write { result ≡ Err cut_by.WriteFault → Rose (K.faults out.old) (K.faults out.new) }
+    ensures calm_sink { result ≢ Err cut_by.WriteFault → K.faults out.new ≡ K.faults out.old }
+    ensures store { result ≡ Ok End.ShelfFault → Rose (F.faults shelf.old) (F.faults shelf.new) }
+    ensures calm_shelf { result ≢ Ok End.ShelfFault → result ≢ Err cut_by.WriteFault → F.faults shelf.new ≡ F.faults shelf.old }
 {
-    let script = read_to_limit(alloc, source, BYTE_LIMIT)?;
-    match run_script(alloc, command, &script, shelf) {
-        Ok(ran) => Ok(ran),
-        Err(_) => Err(ReadEnd::Memory),
+    let mut session = Session::new(alloc);
+    match run_lines(alloc, command, source, &mut session, out, shelf) {
+        Ok(ended) => match write_rest(out, &mut session.text) {
+            Ok(()) => Ok(ended),
+            Err(_) => Err(Cut::WriteFault),
+        },
+        Err(Cut::ReadFault) => match write_rest(out, &mut session.text) {
+            Ok(()) => Err(Cut::ReadFault),
+            Err(_) => Err(Cut::WriteFault),
+        },
+        Err(Cut::WriteFault) => Err(Cut::WriteFault),
+        Err(Cut::Memory) => Err(Cut::Memory),
     }
 }
 
@@ -53,8 +66,10 @@ fn run_source<S: Source, F: Shelf>(
 /// substream. `refine` answers each space line of the script: with the space line of the least box that holds every
 /// configuration which its card's model leaves, or with `err EINVAL 22` where none is left. Any other words are `Usage`, and
 /// then nothing is read, written or stored. `ReadFault`, `WriteFault` and `ShelfFault` come only where the count of faults of
-/// the source, the sink or the shelf rose. Nothing is written before a `ReadFault` or `Memory`, nor stored before a
-/// `ReadFault`. This project's own.
+/// the source, the sink or the shelf rose. A script is read in pieces of at most 4,096 bytes, of which one line is held at a
+/// time, and the text is written in pieces of 4,096 bytes, each as soon as it is gathered. What is gathered beyond the last
+/// whole piece is written at the end, before a `ReadFault` too, but not after a failed write or for want of memory. This
+/// project's own.
 pub fn pcm_main<S: Source, K: Sink, F: Shelf>(
     alloc: Global,
     words: &[String],
@@ -69,16 +84,21 @@ pub fn pcm_main<S: Source, K: Sink, F: Shelf>(
     ensures output { was_cut result ≡ false → IfSome (asked (map string_bytes words.now)) (λ command. IfSome (S.left source.old)
         (λ script. IsOutput command script (F.files shelf.old) (F.files shelf.new) (K.written out.old) (K.written out.new) result)) }
     ensures front { IfSome (asked (map string_bytes words.now)) (λ command. IfSome (S.left source.old)
-        (λ script. IsFront command script (F.files shelf.old) (F.files shelf.new) (K.written out.old) (K.written out.new))) }
-    ensures unread { result ≡ Status.ReadFault → (out.new ≡ out.old) × (F.files shelf.new ≡ F.files shelf.old) }
-    ensures unfound { result ≡ Status.Memory → out.new ≡ out.old }
+        (λ script. IsFrontRun command script (F.files shelf.old) (F.files shelf.new) (F.faults shelf.old) (F.faults shelf.new) (K.written out.old) (K.written out.new))) }
+    ensures faulted { result ≡ Status.ReadFault → IfSome (asked (map string_bytes words.now)) (λ command. IfSome (S.left source.old)
+        (λ script. IsUpToFault command script (S.left source.new) (F.files shelf.old) (F.files shelf.new) (K.written out.old) (K.written out.new))) }
     ensures statuses { is_given result ≡ true }
     ensures ended { result ≡ Status.Ok → IsAtEnd (S.left source.new) }
 
+    // A script whose lines are all of the command, or skipped, and which keeps the limits, ends well where nothing fails.
+    ensures complete { IfSome (asked (map string_bytes words.now)) (λ command. IfSome (S.left source.old) (λ script. IsScript command script
+        → (¬ Rose (S.faults source.old) (S.faults source.new)) → (¬ Rose (K.faults out.old) (K.faults out.new)) → (¬ Rose (F.faults shelf.old) (F.faults shelf.new))
+        → (result ≡ Status.Ok) ⊎ (result ≡ Status.Memory))) }
+
     // The causes: a fault of the source, of the sink or of the shelf, named by the status. A failed write is named before a
-    // failed store.
+    // failed read or store.
     ensures read { result ≡ Status.ReadFault → Rose (S.faults source.old) (S.faults source.new) }
-    ensures calm_source { result ≢ Status.ReadFault → S.faults source.new ≡ S.faults source.old }
+    ensures calm_source { result ≢ Status.ReadFault → result ≢ Status.WriteFault → S.faults source.new ≡ S.faults source.old }
     ensures write { result ≡ Status.WriteFault → Rose (K.faults out.old) (K.faults out.new) }
     ensures calm_sink { result ≢ Status.WriteFault → K.faults out.new ≡ K.faults out.old }
     ensures store { result ≡ Status.ShelfFault → Rose (F.faults shelf.old) (F.faults shelf.new) }
@@ -87,13 +107,10 @@ pub fn pcm_main<S: Source, K: Sink, F: Shelf>(
     let Some(command) = command_of(words) else {
         return Status::Usage;
     };
-    let ran = match run_source(alloc, command, source, shelf) {
-        Ok(ran) => ran,
-        Err(ReadEnd::Failed) => return Status::ReadFault,
-        Err(ReadEnd::Memory) => return Status::Memory,
-    };
-    match write_all(out, &ran.text) {
-        Ok(()) => status_of(ran.ended),
-        Err(_) => Status::WriteFault,
+    match run_source(alloc, command, source, out, shelf) {
+        Ok(ended) => status_of(ended),
+        Err(Cut::ReadFault) => Status::ReadFault,
+        Err(Cut::WriteFault) => Status::WriteFault,
+        Err(Cut::Memory) => Status::Memory,
     }
 }

@@ -7,8 +7,8 @@ ghost use Rattle.pcm_base.specs.declared.ids.ClientId.{ClientId};
 ghost use Rattle.pcm_base.specs.declared.reply.Reply.TheVariants.{Asleep, Memory};
 ghost use Rattle.pcm_base.specs.declared.act.Updated.TheVariants.{Nothing};
 ghost use Rattle.pcm_base.specs.declared.call.Mode.TheVariants.{NonBlock};
-ghost use Rattle.pcm_base.specs.model.Events.{event as event_of, drain_now as drain_of, delay as delay_in, poll as poll_of};
-ghost use Rattle.pcm_base.specs.model.Program.{act_alone as program_of};
+ghost use Rattle.pcm_base.specs.model.Events.{event as event_of, drain_now as drain_of, delay as delay_in, poll as poll_of, unplug_alone as unplugging};
+ghost use Rattle.pcm_base.specs.model.Program.{act_alone as program_of, making};
 ghost use Rattle.pcm_base.specs.model.Sound.{is_set_up, is_stop};
 ghost use Rattle.pcm_base.specs.model.Update.{update as update_of};
 ghost use Rattle.pcm_base.specs.model.Stream.{Stream};
@@ -19,7 +19,9 @@ ghost use Rattle.pcm_top.specs.OneStream.{is_built_call};
 use crate::world::alone::{act_alone, refresh};
 use crate::world::write::write;
 use card_emul::AnyCard;
-use pcm_base::{Act, Call, CallKind, Config, Dir, Errno, Ready, Reply, State, SwParams, Updated};
+use pcm_base::{
+    Act, Call, CallKind, Card, Config, Dir, Errno, Ready, Reply, State, SwParams, Updated,
+};
 use pcm_stream::{DmaRefusal, HwRefusal, Substream};
 use state_table::permit;
 
@@ -278,6 +280,47 @@ fn move_by(stream: &mut Substream<AnyCard>, n: u64) -> Reply
     }
 }
 
+// Whether the card runs.
+fn card_runs(stream: &Substream<AnyCard>) -> bool
+    ensures { (s : Stream) → StandsFor stream.now s → result ≡ s.card.runs }
+{
+    stream.card().runs()
+}
+
+// A card that stands is gone.
+fn unplug_alone(stream: &mut Substream<AnyCard>) -> Reply
+    ensures done { (s : Stream) → StandsFor stream.old s → s.card.runs ≡ false → IsEnd (unplugging s) result stream.new }
+    ensures told { result ≢ Memory }
+    ensures awake { result ≢ Asleep }
+{
+    stream.unplug();
+    Reply::Ok
+}
+
+// A card that runs is stopped first.
+fn stop_and_unplug(stream: &mut Substream<AnyCard>) -> Reply
+    ensures done { (s : Stream) → StandsFor stream.old s → IsEnd (making (act.Stop State.Setup) s unplugging) result stream.new }
+    ensures told { result ≢ Memory }
+    ensures awake { result ≢ Asleep }
+{
+    match act_alone(stream, Act::Stop(State::Setup)) {
+        Ok(()) => unplug_alone(stream),
+        Err(e) => Reply::Err(e),
+    }
+}
+
+fn unplug(stream: &mut Substream<AnyCard>) -> Reply
+    ensures done { (c : ClientId) (s : Stream) → StandsFor stream.old s → IsEnd (event_of call.Unplug c false [] s) result stream.new }
+    ensures told { result ≢ Memory }
+    ensures awake { result ≢ Asleep }
+{
+    match permit(CallKind::Unplug, stream.state(), stream.dir()) {
+        Ok(()) if card_runs(stream) => stop_and_unplug(stream),
+        Ok(()) => unplug_alone(stream),
+        Err(e) => Reply::Err(e),
+    }
+}
+
 /// What an event does to the substream, on which nobody waits. `Memory` leaves all as it was.
 pub fn event_alone(stream: &mut Substream<AnyCard>, call: Call, bytes: &[u8]) -> Reply
     requires { is_built_call call ≡ true }
@@ -309,6 +352,7 @@ pub fn event_alone(stream: &mut Substream<AnyCard>, call: Call, bytes: &[u8]) ->
         Call::MoveBy(n) => move_by(stream, n),
         Call::Irq => irq(stream),
         Call::FailAt(k) => fail_at(stream, k),
+        Call::Unplug => unplug(stream),
         _ => unreachable!(),
     }
 }

@@ -41,11 +41,8 @@ fn frames_to_write(stream: &Substream<AnyCard>, bytes: &[u8]) -> Result<u64, Err
     if stream.dir() != Dir::Playback {
         return Err(Errno::Einval);
     }
-    if stream.state() == State::Opened {
-        return Err(Errno::Ebadfd);
-    }
     let (Some(config), Some(shape)) = (stream.config(), stream.shape()) else {
-        return Err(Errno::Einval);
+        return Err(Errno::Ebadfd);
     };
     if !fits_interleaved(config) || bytes.len() as u64 % shape.frame_bytes != 0 {
         return Err(Errno::Einval);

@@ -12,4 +12,4 @@ returns c = λ s keeps.
     let world = c.declare-reply.ensures.world s.world keeps.world in
     let by_reply : Reply → Told = λ r. record { reply = r; state = Some (state_in c.args.sub t.world); woken = 0 } in
     let told = c.told_of-told.ensures.told t.world world ∙ ap by_reply (c.declare-reply.ensures.reply s.world keeps.world) ∙ declare-shows c.args.sub (limits_of c.args.model) c.args.dir s.world in
-    tells-ok c.push_told.result c.declare-reply.new.self c.args.number c.told_of-told.result t s c.args.session.now.text.items c.push_told.new.text c.push_told.ensures.ok told keeps.text world
+    tells-ok c.push_told.result c.declare-reply.new.self c.args.session.now.version c.args.number c.told_of-told.result t s c.args.session.now.text.items c.push_told.new.text c.push_told.ensures.ok told keeps.text keeps.version world

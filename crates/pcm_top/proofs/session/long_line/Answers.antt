@@ -11,4 +11,4 @@ returns c = λ s keeps.
     let world = c.set_long.ensures.world s.world keeps.world in
     let by_reply : Reply → Told = λ r. record { reply = r; state = None; woken = 0 } in
     let told = ap by_reply (c.set_long.ensures.reply s.world keeps.world) ∙ set_long-shows c.args.n s.world in
-    tells-ok c.push_told.result c.set_long.new.self c.args.number _ t s c.args.session.now.text.items c.push_told.new.text c.push_told.ensures.ok told keeps.text world
+    tells-ok c.push_told.result c.set_long.new.self c.args.session.now.version c.args.number _ t s c.args.session.now.text.items c.push_told.new.text c.push_told.ensures.ok told keeps.text keeps.version world

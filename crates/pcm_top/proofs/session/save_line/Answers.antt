@@ -10,7 +10,7 @@ returns-in_err-reply-clause-memory g c s is memory =
 
 pub returns-in_err-push_told-clause-memory : goal.returns-in_err-push_told-clause-memory
 returns-in_err-push_told-clause-memory g c s is memory =
-    save-cut c.args.number c.args.sub c.args.name.now s (g.F.Shelf.files c.save_taken.new.shelf) c.requires.built is.none_lost (c.in_ok-reply.ensures.stored s.world s.files is.keeps.world is.shelf)
+    save-cut c.args.number c.args.sub c.args.name.now s (g.F.Shelf.files c.save_taken.new.shelf) c.requires.built (c.in_ok-reply.ensures.stored s.world s.files is.keeps.world is.shelf)
 
 pub returns-clause-ok : goal.returns-clause-ok
 returns-clause-ok g c s is =

@@ -1,29 +1,52 @@
-use Rattle.std.proofs.Common.{ℕ, List, refl, ◌∙◌, subst}
+use Rattle.std.proofs.Common.{length, ap}
+use Rattle.std.specs.Prelude.{Err, Ok}
+use Rattle.pcm_top.specs.declared.end.Cut.{Cut}
 use Rattle.pcm_top.specs.declared.end.End.{End}
-use Rattle.pcm_top.specs.declared.end.End.TheVariants.{Whole}
-use Rattle.pcm_top.specs.CodeSession.{IsRan}
-use Rattle.pcm_top.specs.Script.{script_front, FrontGives}
-use Rattle.pcm_top.specs.Session.{begin}
-use Rattle.pcm_top.proofs.OutputLemmas.{if-some-all, if-some-map, none-executed}
-use Rattle.pcm_top.proofs.ScriptLemmas.{whole-fits}
+use Rattle.pcm_top.proofs.OutputLemmas.{if-some-map, ran-output, ran-front, fault-told, fault-front, short-front, whole-front}
 use Rattle.pcm_top.proofs.top.run_source.Goals as goal
 
--- nothing was read, so no line was executed
-pub returns-in_err-script-clause-memory : goal.returns-in_err-script-clause-memory
-returns-in_err-script-clause-memory g c = λ cut.
-    if-some-all _ (g.S.Source.left c.args.source.now) (λ script. none-executed c.args.command (script_front script) (g.F.Shelf.files c.args.shelf.now) (g.F.Shelf.files c.args.shelf.now) refl)
+pub returns-in-Ok-write_rest-clause-ran : goal.returns-in-Ok-write_rest-clause-ran
+returns-in-Ok-write_rest-clause-ran g c =
+    if-some-map _ _ (g.S.Source.left c.args.source.now) (λ script ran.
+    ran-output c.args.command script _ _ _ _ _ c.run_lines.new.session.text.items c.in-Ok.ended ran c.in-Ok-write_rest.ensures.all) c.in-Ok.ensures.ran
 
-pub returns-in-Ok-clause-ran : goal.returns-in-Ok-clause-ran
-returns-in-Ok-clause-ran g c =
-    if-some-map _ _ (g.S.Source.left c.args.source.now)
-    (λ script front. subst (λ (bytes : List ℕ). IsRan c.args.command bytes (g.F.Shelf.files c.args.shelf.now) (g.F.Shelf.files c.run_script.new.shelf) c.in-Ok.ran.text.items c.in-Ok.ran.ended)
-    (c.deref.ensures.value ∙ front) c.in-Ok.ensures.ran)
-    c.in_ok-script.ensures.front
+pub returns-in-Ok-write_rest-clause-front : goal.returns-in-Ok-write_rest-clause-front
+returns-in-Ok-write_rest-clause-front g c =
+    if-some-map _ _ (g.S.Source.left c.args.source.now) (λ script ran.
+    ran-front c.args.command script _ _ _ _ _ _ _ c.run_lines.new.session.text.items c.in-Ok.ended (length c.run_lines.new.session.text.items) ran
+    (λ e. c.in-Ok.ensures.store (ap (λ (x : End). Ok x) e)) (whole-front _ _ _ c.in-Ok-write_rest.ensures.all)) c.in-Ok.ensures.ran
 
-pub returns-in-Ok-clause-ended : goal.returns-in-Ok-clause-ended
-returns-in-Ok-clause-ended g c = λ whole.
-    let ran = c.in-Ok.ensures.ran in
-    let start = begin (g.F.Shelf.files c.args.shelf.now) in
-    let gives = subst (λ (e : End). FrontGives c.args.command c.deref.result.now start ran.last e) whole ran.gives in
-    let here = subst (λ (bytes : List ℕ). FrontGives c.args.command bytes start ran.last Whole) c.deref.ensures.value gives in
-    c.in_ok-script.ensures.end (whole-fits c.args.command c.in_ok-script.script.items start ran.last here)
+pub returns-in-Ok-clause-front : goal.returns-in-Ok-clause-front
+returns-in-Ok-clause-front g c =
+    let n = c.write_rest.ensures.front in
+    if-some-map _ _ (g.S.Source.left c.args.source.now) (λ script ran.
+    ran-front c.args.command script _ _ _ _ _ _ _ c.run_lines.new.session.text.items c.in-Ok.ended n.0 ran (λ e. c.in-Ok.ensures.store (ap (λ (x : End). Ok x) e)) n.2) c.in-Ok.ensures.ran
+
+pub returns-in-Ok-write_rest-2-clause-front : goal.returns-in-Ok-write_rest-2-clause-front
+returns-in-Ok-write_rest-2-clause-front g c =
+    if-some-map _ _ (g.S.Source.left c.args.source.now) (λ script ran.
+    fault-front c.args.command script _ _ _ _ _ _ _ _ c.run_lines.new.session.text.items (length c.run_lines.new.session.text.items) ran (whole-front _ _ _ c.in-Ok-write_rest-2.ensures.all))
+    (c.in-Err-ReadFault.ensures.faulted (ap (λ (x : Cut). Err x) c.in-Err-ReadFault.field-0-is))
+
+pub returns-in-Ok-write_rest-2-clause-faulted : goal.returns-in-Ok-write_rest-2-clause-faulted
+returns-in-Ok-write_rest-2-clause-faulted g c = λ is.
+    if-some-map _ _ (g.S.Source.left c.args.source.now) (λ script ran.
+    fault-told c.args.command script _ _ _ _ _ _ c.run_lines.new.session.text.items ran c.in-Ok-write_rest-2.ensures.all)
+    (c.in-Err-ReadFault.ensures.faulted (ap (λ (x : Cut). Err x) c.in-Err-ReadFault.field-0-is))
+
+pub returns-in-Err-ReadFault-clause-front : goal.returns-in-Err-ReadFault-clause-front
+returns-in-Err-ReadFault-clause-front g c =
+    let n = c.write_rest-in-Err-ReadFault.ensures.front in
+    if-some-map _ _ (g.S.Source.left c.args.source.now) (λ script ran.
+    fault-front c.args.command script _ _ _ _ _ _ _ _ c.run_lines.new.session.text.items n.0 ran n.2)
+    (c.in-Err-ReadFault.ensures.faulted (ap (λ (x : Cut). Err x) c.in-Err-ReadFault.field-0-is))
+
+pub returns-in-Err-WriteFault-clause-front : goal.returns-in-Err-WriteFault-clause-front
+returns-in-Err-WriteFault-clause-front g c =
+    let is = c.in-Err-WriteFault.field-0-is in
+    if-some-map _ _ (g.S.Source.left c.args.source.now) (λ script ran. short-front c.args.command script _ _ _ _ _ _ ran) (c.in-Err-WriteFault.ensures.cut (λ e. cc))
+
+pub returns-clause-front : goal.returns-clause-front
+returns-clause-front g c =
+    let is = c.in-Err-Memory.field-0-is in
+    if-some-map _ _ (g.S.Source.left c.args.source.now) (λ script ran. short-front c.args.command script _ _ _ _ _ _ ran) (c.in-Err-Memory.ensures.cut (λ e. cc))

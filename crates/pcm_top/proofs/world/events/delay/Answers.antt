@@ -21,6 +21,7 @@ use Rattle.pcm_top.proofs.world.events.delay.Goals as goal
 told_set_up : (t : State) (d : Dir) → permit kind.Delay t d ≡ None → is_set_up t ≡ true
 told_set_up state.Closed d h = absurd (cc)
 told_set_up state.Opened d h = absurd (cc)
+told_set_up state.Disconnected d h = absurd (cc)
 told_set_up _ d h = refl
 
 settled_set_up : (u : Updated) (s : Stream) → is_set_up s.state ≡ true → is_set_up (settled u s).state ≡ true

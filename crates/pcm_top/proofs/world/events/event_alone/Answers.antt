@@ -85,3 +85,6 @@ returns-in-SwParams-clause-done c client s h w n = at_call c.args.call (call.SwP
 
 pub returns-in-FailAt-clause-done : goal.returns-in-FailAt-clause-done
 returns-in-FailAt-clause-done c client s h w n = at_call c.args.call (call.FailAt c.in-FailAt.k) client c.args.bytes.now s c.fail_at.result c.fail_at.new.stream c.in-FailAt.is (c.fail_at.ensures.done client s h)
+
+pub returns-in-Unplug-clause-done : goal.returns-in-Unplug-clause-done
+returns-in-Unplug-clause-done c client s h w n = at_call c.args.call call.Unplug client c.args.bytes.now s c.unplug.result c.unplug.new.stream c.in-Unplug.is (c.unplug.ensures.done client s h)
