@@ -1,5 +1,5 @@
 -- The marks of the model, as calls come, go and are checked.
-use Rattle.std.proofs.Common.{◌≡◌, ℕ, suc, Bool, true, false, not, cond, ◌&&◌, ◌||◌, List, [], ◌∷◌, ◌++◌, length, refl, sym, ◌∙◌, ap, subst, eqb, nat_eq, eqb-true}
+use Rattle.std.proofs.Common.{◌≡◌, ℕ, suc, Bool, true, false, not, cond, if◌then◌else◌, ◌&&◌, ◌||◌, List, [], ◌∷◌, ◌++◌, length, refl, sym, ◌∙◌, ap, subst, eqb, nat_eq, eqb-true}
 use Rattle.std.specs.List.{AllByRecursion}
 use Rattle.std.proofs.lemmas.List.Elements.{All-from_recursion, All-filter, recursion_from_All}
 use Rattle.std.specs.Option.{option_map}
@@ -12,8 +12,8 @@ use Rattle.pcm_base.specs.model.Sleep.{is_among, without_client, may_wait, sleep
 use Rattle.pcm_base.specs.model.Stream.{Stream, Waiting, avail}
 use Rattle.pcm_base.specs.model.Events.{others_than as others_waiting, waiting_of}
 use Rattle.sleepers.specs.Clients.{is_of, has_client, others_than, sleeper_of, AreApart}
-use Rattle.sleepers.specs.Wake.{may_wait_on, wakes, woken_sleepers, after_check, asleep_again, clients_of}
-use Rattle.sleepers.specs.Marks.{waiting, AreMarks, IsModelCheck}
+use Rattle.sleepers.specs.Wake.{may_wait_on, wakes, woken_sleepers, after_check, clients_of, with_mark}
+use Rattle.sleepers.specs.Marks.{waiting, marks_with, AreMarks, IsModelCheck}
 use Rattle.sleepers.proofs.ClientLemmas.{eqb-sym_false, eqb-same, or-false_left, or-false_right, has_client-same, filter-none, list_any-others}
 use Rattle.sleepers.proofs.WakeLemmas.{has_client-checked}
 
@@ -36,6 +36,16 @@ is_among-without_other c d (e ∷ cs) h =
       | true ↦ λ is. is_among-without_other c d cs h
           ∙ ap (λ b. b || is_among d cs) (sym (differs-from e.0 c.0 d.0 (sym is) h))
       | false ↦ λ is. ap (λ b. nat_eq e.0 d.0 || b) (is_among-without_other c d cs h)
+    ] refl
+
+is_among-without_own : (c d : ClientId) (cs : List ClientId) → nat_eq d.0 c.0 ≡ true → is_among d (without_client c cs) ≡ false
+is_among-without_own c d [] h = refl
+is_among-without_own c d (e ∷ cs) h =
+    elim (nat_eq e.0 c.0) as (λ b. b ≡ nat_eq e.0 c.0 → is_among d (cond b (without_client c cs) (e ∷ without_client c cs)) ≡ false) [
+      | true ↦ λ is. is_among-without_own c d cs h
+      | false ↦ λ is.
+          let same : d.0 ≡ c.0 = eqb-true d.0 c.0 h in
+          ap (λ b. b || is_among d (without_client c cs)) (subst (λ n. nat_eq e.0 n ≡ false) (sym same) (sym is)) ∙ is_among-without_own c d cs h
     ] refl
 
 -- no call of the client's is here: its mark does not matter
@@ -170,51 +180,45 @@ AreMarks-take c marks xs h =
     let others = All-filter (λ x. not (is_of c x)) (λ x. is_among x.client marks ≡ x.asleep) xs h in
     All-from_recursion _ _ (marks-without c marks (others_than c xs) (list_any-others (is_of c) xs) (recursion_from_All _ (others_than c xs) others))
 
--- ---- a call that falls asleep again
-
-or-true : (a : Bool) → a || true ≡ true
-or-true true = refl
-or-true false = refl
-
-or-false : (a : Bool) → a || false ≡ a
-or-false true = refl
-or-false false = refl
+-- ---- a call that is marked asleep or awake
 
 eqb-flip : (m n : ℕ) (b : Bool) → nat_eq m n ≡ b → nat_eq n m ≡ b
 eqb-flip m n true e = let is : m ≡ n = eqb-true m n e in subst (λ k. nat_eq k m ≡ true) is (eqb-same m)
 eqb-flip m n false e = eqb-sym_false m n e
 
-pub waiting-marked : (c : ClientId) (xs : List Sleeper) → waiting (asleep_again c xs) ≡ waiting xs
-waiting-marked c [] = refl
-waiting-marked c (x ∷ xs) = ap (λ (ps : List Waiting). record { client = x.client; task = x.task } ∷ ps) (waiting-marked c xs)
+pub waiting-marked : (c : ClientId) (asleep : Bool) (xs : List Sleeper) → waiting (with_mark c asleep xs) ≡ waiting xs
+waiting-marked c asleep [] = refl
+waiting-marked c asleep (x ∷ xs) = ap (λ (ps : List Waiting). record { client = x.client; task = x.task } ∷ ps) (waiting-marked c asleep xs)
 
-has_client-marked : (c d : ClientId) (xs : List Sleeper) → has_client d (asleep_again c xs) ≡ has_client d xs
-has_client-marked c d [] = refl
-has_client-marked c d (x ∷ xs) = ap (λ b. is_of d x || b) (has_client-marked c d xs)
+has_client-marked : (c d : ClientId) (asleep : Bool) (xs : List Sleeper) → has_client d (with_mark c asleep xs) ≡ has_client d xs
+has_client-marked c d asleep [] = refl
+has_client-marked c d asleep (x ∷ xs) = ap (λ b. is_of d x || b) (has_client-marked c d asleep xs)
 
-pub AreApart-marked : (c : ClientId) (xs : List Sleeper) → AreApart xs → AreApart (asleep_again c xs)
-AreApart-marked c [] h = tt
-AreApart-marked c (x ∷ xs) h = (h.0, has_client-marked c x.client xs ∙ h.1, AreApart-marked c xs h.2)
+pub AreApart-marked : (c : ClientId) (asleep : Bool) (xs : List Sleeper) → AreApart xs → AreApart (with_mark c asleep xs)
+AreApart-marked c asleep [] h = tt
+AreApart-marked c asleep (x ∷ xs) h = (h.0, has_client-marked c x.client asleep xs ∙ h.1, AreApart-marked c asleep xs h.2)
 
-pub length-marked : (c : ClientId) (xs : List Sleeper) → length (asleep_again c xs) ≡ length xs
-length-marked c [] = refl
-length-marked c (x ∷ xs) = ap suc (length-marked c xs)
+pub length-marked : (c : ClientId) (asleep : Bool) (xs : List Sleeper) → length (with_mark c asleep xs) ≡ length xs
+length-marked c asleep [] = refl
+length-marked c asleep (x ∷ xs) = ap suc (length-marked c asleep xs)
 
--- the mark of one client is set, whether it was or not
-mark-here : (c d : ClientId) (marks : List ClientId) (b : Bool) → nat_eq d.0 c.0 ≡ b → is_among d (c ∷ without_client c marks) ≡ is_among d marks || b
-mark-here c d marks true e =
-    ap (λ a. a || is_among d (without_client c marks)) (eqb-flip d.0 c.0 true e) ∙ sym (or-true (is_among d marks))
-mark-here c d marks false e =
-    ap (λ a. a || is_among d (without_client c marks)) (eqb-sym_false d.0 c.0 e) ∙ is_among-without_other c d marks e ∙ sym (or-false (is_among d marks))
+-- the mark of one client is as it is told, and each other as it was
+mark-here : (c d : ClientId) (asleep : Bool) (marks : List ClientId) (b : Bool) → nat_eq d.0 c.0 ≡ b
+    → is_among d (marks_with c asleep marks) ≡ (if b then asleep else is_among d marks)
+mark-here c d true marks true e = ap (λ a. a || is_among d (without_client c marks)) (eqb-flip d.0 c.0 true e)
+mark-here c d true marks false e =
+    ap (λ a. a || is_among d (without_client c marks)) (eqb-sym_false d.0 c.0 e) ∙ is_among-without_other c d marks e
+mark-here c d false marks true e = is_among-without_own c d marks e
+mark-here c d false marks false e = is_among-without_other c d marks e
 
-marks-marked : (c : ClientId) (marks : List ClientId) (xs : List Sleeper) → Marks marks xs → Marks (c ∷ without_client c marks) (asleep_again c xs)
+marks-marked : (c : ClientId) (asleep : Bool) (marks : List ClientId) (xs : List Sleeper) → Marks marks xs → Marks (marks_with c asleep marks) (with_mark c asleep xs)
 unfolding Marks
-marks-marked c marks [] h = tt
-marks-marked c marks (x ∷ xs) h = (
-  mark-here c x.client marks (is_of c x) refl ∙ ap (λ a. a || is_of c x) h.0,
-  marks-marked c marks xs h.1,
+marks-marked c asleep marks [] h = tt
+marks-marked c asleep marks (x ∷ xs) h = (
+  mark-here c x.client asleep marks (is_of c x) refl ∙ ap (λ a. if is_of c x then asleep else a) h.0,
+  marks-marked c asleep marks xs h.1,
 )
 
-pub AreMarks-again : (c : ClientId) (marks : List ClientId) (xs : List Sleeper) → AreMarks marks xs → AreMarks (c ∷ without_client c marks) (asleep_again c xs)
+pub AreMarks-mark : (c : ClientId) (asleep : Bool) (marks : List ClientId) (xs : List Sleeper) → AreMarks marks xs → AreMarks (marks_with c asleep marks) (with_mark c asleep xs)
 unfolding Marks
-AreMarks-again c marks xs h = All-from_recursion _ _ (marks-marked c marks xs (recursion_from_All _ xs h))
+AreMarks-mark c asleep marks xs h = All-from_recursion _ _ (marks-marked c asleep marks xs (recursion_from_All _ xs h))

@@ -1,5 +1,5 @@
 -- Who may wait on a substream, and who is woken (wait_for_avail and snd_pcm_drain of sound/core).
-use Rattle.std.specs.Prelude.{ℕ, Bool, not, ◌&&◌, ◌||◌, nat_lt, List, map, filter}
+use Rattle.std.specs.Prelude.{ℕ, Bool, not, ◌&&◌, nat_lt, List, map, filter, if◌then◌else◌}
 use Rattle.pcm_base.specs.declared.ids.ClientId.{ClientId}
 use Rattle.pcm_base.specs.declared.sleeper.Sleeper.{Sleeper}
 use Rattle.pcm_base.specs.declared.sleeper.Task.{Task}
@@ -32,9 +32,9 @@ after_check s available group_drains xs = map (checked s available group_drains)
 abbrev pub clients_of : List Sleeper → List ClientId
 clients_of xs = map (λ x. x.client) xs
 
--- the client's call is asleep, and each other as it was
-abbrev pub marked : ClientId → Sleeper → Sleeper
-marked c x = record x { asleep = x.asleep || is_of c x }
+-- the client's call is asleep or awake as it is told, and each other as it was
+abbrev pub marked : ClientId → Bool → Sleeper → Sleeper
+marked c asleep x = record x { asleep = if is_of c x then asleep else x.asleep }
 
-abbrev pub asleep_again : ClientId → List Sleeper → List Sleeper
-asleep_again c xs = map (marked c) xs
+abbrev pub with_mark : ClientId → Bool → List Sleeper → List Sleeper
+with_mark c asleep xs = map (marked c asleep) xs

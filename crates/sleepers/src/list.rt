@@ -5,8 +5,8 @@ ghost use Rattle.pcm_base.specs.model.Events.{others_than as others_waiting, wai
 ghost use Rattle.pcm_base.specs.model.Sleep.{mask_of, without_client};
 ghost use Rattle.pcm_base.specs.model.Stream.{Stream, avail as avail_of};
 ghost use Rattle.sleepers.specs.Clients.{AreApart, has_client, is_asleep_of, is_of, others_than, sleeper_of};
-ghost use Rattle.sleepers.specs.Marks.{waiting, AreMarks, IsModelCheck};
-ghost use Rattle.sleepers.specs.Wake.{after_check, asleep_again, clients_of, may_wait_on, woken_sleepers};
+ghost use Rattle.sleepers.specs.Marks.{waiting, marks_with, AreMarks, IsModelCheck};
+ghost use Rattle.sleepers.specs.Wake.{after_check, clients_of, may_wait_on, with_mark, woken_sleepers};
 
 use crate::place::Place;
 use crate::wake::{mark_each, wake_each};
@@ -119,17 +119,17 @@ impl Sleepers {
         }
     }
 
-    /// Marks the client's call asleep, which keeps its place; nothing changes where it has none here.
-    pub fn sleep_again(&mut self, client: ClientId)
-        ensures after { self.new ≡ asleep_again client self.old }
+    /// Marks the client's call asleep or awake, which keeps its place; nothing changes where it has none here.
+    pub fn mark(&mut self, client: ClientId, asleep: bool)
+        ensures after { self.new ≡ with_mark client asleep self.old }
         ensures apart { AreApart self.new }
 
         // As the model has them.
         ensures waiting { waiting self.new ≡ waiting self.old }
         ensures marks { (marks : List ClientId) → AreMarks marks self.old
-            → AreMarks (client ∷ without_client client marks) self.new }
+            → AreMarks (marks_with client asleep marks) self.new }
     {
-        mark_each(self.items.as_mut_slice(), client);
+        mark_each(self.items.as_mut_slice(), client, asleep);
     }
 
     /// Whether the client's call is asleep here.

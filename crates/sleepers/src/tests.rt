@@ -56,8 +56,12 @@ fn a_sleeper_wakes_once_it_may_no_longer_wait(rt: HostRuntime) {
             "{task:?} in {state:?}"
         );
         assert_eq!(rt; sleepers.is_asleep(ClientId(3)), !wakes);
-        sleepers.sleep_again(ClientId(3));
+        sleepers.mark(ClientId(3), true);
         assert!(rt; sleepers.is_asleep(ClientId(3)));
+        sleepers.mark(ClientId(4), false);
+        assert!(rt; sleepers.is_asleep(ClientId(3)));
+        sleepers.mark(ClientId(3), false);
+        assert!(rt; !sleepers.is_asleep(ClientId(3)));
         assert_eq!(rt; sleepers.task(ClientId(3)), Some(task));
     }
 }

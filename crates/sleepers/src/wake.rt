@@ -2,7 +2,7 @@
 ghost use Rattle.std.specs.Prelude.{◌≡◌, map, All, ◌<◌};
 ghost use Rattle.pcm_base.specs.model.Sleep.{mask_of, waits_in};
 ghost use Rattle.pcm_base.specs.model.Words.{is_disconnected};
-ghost use Rattle.sleepers.specs.Wake.{after_check, asleep_again, clients_of, may_wait_on, wakes as is_to_wake, woken_sleepers};
+ghost use Rattle.sleepers.specs.Wake.{after_check, clients_of, may_wait_on, wakes as is_to_wake, with_mark, woken_sleepers};
 
 use crate::place::Place;
 use pcm_base::{ClientId, Sleeper, State, Task};
@@ -55,11 +55,13 @@ pub(crate) fn wake_each(places: &mut [Place], state: State, avail: u64, group_dr
     woken
 }
 
-/// Marks the client's call asleep.
-pub(crate) fn mark_each(places: &mut [Place], client: ClientId)
-    ensures { places.new ≡ asleep_again client places.old }
+/// Marks the client's call asleep or awake.
+pub(crate) fn mark_each(places: &mut [Place], client: ClientId, asleep: bool)
+    ensures { places.new ≡ with_mark client asleep places.old }
 {
     for place in places.iter_mut() {
-        place.sleeper.asleep = place.sleeper.asleep || place.sleeper.client == client;
+        if place.sleeper.client == client {
+            place.sleeper.asleep = asleep;
+        }
     }
 }
