@@ -6,40 +6,40 @@ use std::alloc::Global;
 use std::collections::LinkedList;
 use std::marker::{Brand, PhantomData};
 
-// An entry with its mark. No value of it is made, nor of the types below up to the rule.
+/// An entry with its mark. No value of it is made, nor of the types below up to the rule.
 pub struct Marked {
     pub entry: Entry,
     pub mark: EntryMark,
 }
 
-// A call of a pass: its event, and the count of bytes that the caller handed in.
+/// A call of a pass: its event, and the count of bytes that the caller handed in.
 pub struct Made {
     pub event: Event,
     pub count: u64,
 }
 
-// A page word that was read: its substream, the count of entries, and the word.
+/// A page word that was read: its substream, the count of entries, and the word.
 pub struct Reading {
     pub sub: u64,
     pub count: u64,
     pub word: u64,
 }
 
-// What a seat is told: beginnings of logs by substream, beginnings of the lists of calls by pass, and page words.
+/// What a seat is told: beginnings of logs by substream, beginnings of the lists of calls by pass, and page words.
 pub struct Lists {
     pub logs: LinkedList<(u64, LinkedList<Marked>)>,
     pub calls: LinkedList<(u64, LinkedList<Made>)>,
     pub reads: LinkedList<Reading>,
 }
 
-// How many recs and passes there are, and which recs have been taken in.
+/// How many recs and passes there are, and which recs have been taken in.
 pub struct MakerKnows {
     pub recs: u64,
     pub passes: u64,
     pub roll: LinkedList<u64>,
 }
 
-// The substream, its whole log, its place, and what it was told.
+/// The substream, its whole log, its place, and what it was told.
 pub struct RecKnows {
     pub sub: u64,
     pub log: LinkedList<Marked>,
@@ -47,7 +47,7 @@ pub struct RecKnows {
     pub held: Lists,
 }
 
-// The number of the pass, its calls, the receipts of them, the page words that it has read itself, and what it was told.
+/// The number of the pass, its calls, the receipts of them, the page words that it has read itself, and what it was told.
 pub struct PassKnows {
     pub number: u64,
     pub calls: LinkedList<Made>,
@@ -56,7 +56,7 @@ pub struct PassKnows {
     pub held: Lists,
 }
 
-// What a seat knows.
+/// What a seat knows.
 pub enum View {
     Maker(MakerKnows),
     Rec(RecKnows),
@@ -65,6 +65,7 @@ pub enum View {
     Spent,
 }
 
+/// The rule of the floor's table: which steps a seat may take, and what each one then knows.
 pub struct FloorRule;
 
 impl TableRule<(), View, u64> for FloorRule {
@@ -75,6 +76,7 @@ impl TableRule<(), View, u64> for FloorRule {
     ghost first = { first_view };
 }
 
+/// The table that the recs, the passes and the maker have seats at.
 pub type Board = Table<(), View, u64, FloorRule, Global>;
 
 /// The maker takes in a rec.
