@@ -101,3 +101,63 @@ fn a_capture_buffer_is_mapped_and_loaded(rt: HostRuntime) {
     assert_eq!(rt; out, [0, 0, 0, 0]);
     assert_eq!(rt; load(&stream, 1, &mut out), Err(Errno::Einval));
 }
+
+// Two periods of two frames, a buffer of its own for each of two channels.
+const APART: Config = Config {
+    access: Access::MmapNoninterleaved,
+    channels: 2,
+    ..SMALL
+};
+
+#[test]
+fn frames_are_stored_and_loaded_where_channels_lie_apart(rt: HostRuntime) {
+    let card = AnyCard::new(rt.alloc(), Model::Basic, Dir::Playback);
+    let mut stream = Substream::new(rt.alloc(), card, Dir::Playback, 2_147_483_647);
+    assert_eq!(rt; stream.open_sub(), Ok(()));
+    assert_eq!(rt; stream.hw_params(&APART, false), Ok(()));
+    assert_eq!(rt; map_sub(&mut stream), Ok(()));
+    assert_eq!(rt;
+        make(&mut stream, Act::Prepare { stop_first: false }),
+        Ok(())
+    );
+    assert_eq!(rt; store_frames(&mut stream, 1, &[1, 11, 2, 12]), Ok(2));
+    assert_eq!(rt;
+        store_frames(&mut stream, 1, &[1, 11, 2]),
+        Err(Errno::Einval)
+    );
+    let mut out = [9; 6];
+    assert_eq!(rt; load(&stream, 0, &mut out), Ok(3));
+    assert_eq!(rt; out, [0, 0, 1, 11, 2, 12]);
+    assert_eq!(rt; sync(&mut stream, 3), Ok(()));
+    assert_eq!(rt; make(&mut stream, Act::Start), Ok(()));
+    assert_eq!(rt; stream.dma(3), Ok(3));
+    assert_eq!(rt; stream.card().taken(), [0, 0, 1, 11, 2, 12].as_slice());
+}
+
+fn give(stream: &mut Substream<AnyCard>, frames: &[u8]) -> bool {
+    match stream.shape() {
+        Some(shape) if frames.len() as u64 % shape.frame_bytes == 0 => stream.give(frames).is_ok(),
+        _ => false,
+    }
+}
+
+#[test]
+fn captured_frames_are_loaded_where_channels_lie_apart(rt: HostRuntime) {
+    let card = AnyCard::new(rt.alloc(), Model::Basic, Dir::Capture);
+    let mut stream = Substream::new(rt.alloc(), card, Dir::Capture, 2_147_483_647);
+    assert_eq!(rt; stream.open_sub(), Ok(()));
+    assert_eq!(rt; stream.hw_params(&APART, false), Ok(()));
+    assert_eq!(rt; map_sub(&mut stream), Ok(()));
+    assert_eq!(rt;
+        make(&mut stream, Act::Prepare { stop_first: false }),
+        Ok(())
+    );
+    assert!(rt; give(&mut stream, &[1, 11, 2, 12, 3, 13]));
+    assert_eq!(rt; make(&mut stream, Act::Start), Ok(()));
+    assert_eq!(rt; stream.dma(3), Ok(3));
+    let mut out = [9; 4];
+    assert_eq!(rt; load(&stream, 1, &mut out), Ok(2));
+    assert_eq!(rt; out, [2, 12, 3, 13]);
+    assert_eq!(rt; sync(&mut stream, 2), Ok(()));
+    assert_eq!(rt; page_of(&stream).appl, 2);
+}

@@ -58,7 +58,9 @@ fn a_card_takes_what_was_put_and_finds_an_underrun(rt: HostRuntime) {
     );
     assert_eq!(rt; stream.open_sub(), Ok(()));
     assert_eq!(rt; stream.open_sub(), Err(Errno::Ebusy));
+    assert!(rt; stream.config().is_none());
     assert_eq!(rt; stream.hw_params(&SMALL, false), Ok(()));
+    assert_eq!(rt; stream.config().copied(), Some(SMALL));
     assert_eq!(rt; make(&mut stream, Act::Start), Err(Errno::Ebadfd));
     assert_eq!(rt;
         make(&mut stream, Act::Prepare { stop_first: false }),
