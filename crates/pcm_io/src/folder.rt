@@ -14,8 +14,9 @@ use std::str::from_utf8;
 
 /// The files of a folder. No file is loaded exactly where the system says "not found"; any other error counts, as that
 /// of a folder in a file's place, or of a file that may not be read or written. A store writes beside the file, under a
-/// name that begins with a dot and that no file has, and then renames, so that no half of a file stands under the name;
-/// it touches no other file. This project's own.
+/// name that begins with a dot and ends in `.part0` to `.part9`, and then renames, so that no half of a file stands under
+/// the name; it touches no other file. It replaces a regular file, a symbolic link to one or to nothing (what a link points
+/// to stays), or nothing; a pipe or a device is refused at once. This project's own.
 #[derive(Drop)]
 pub struct FolderShelf<'a, F> {
     files: F,
@@ -24,7 +25,7 @@ pub struct FolderShelf<'a, F> {
     faults: u64,
 }
 
-// A store that was cut off may have left its file: the next takes the next number, as many times.
+// A store that was cut off may have left its file: the next takes the next number. Where all are taken, the first is old.
 const PART_LIMIT: u8 = 10;
 
 fn text_of(name: &Name) -> Result<&str, ShelfError> {
@@ -40,11 +41,25 @@ fn path_in(alloc: Global, folder: &str, file: &str) -> Result<PathBuf, AllocErro
     Ok(path)
 }
 
-// A file of that name may be written, or there is none.
+// A file of that name may be written, or there is none. What is no file is not opened, since that may wait.
 fn may_write<F: Files>(files: &F, path: &PathBuf) -> bool {
-    match OpenOptions::new().write(true).open(files, path) {
-        Ok(_) => true,
+    match fs::metadata(files, path) {
+        Ok(found) => found.is_file() && OpenOptions::new().write(true).open(files, path).is_ok(),
         Err(e) => e.kind() == ErrorKind::NotFound,
+    }
+}
+
+fn part_path(alloc: Global, folder: &str, name: &str, number: u8) -> Result<PathBuf, AllocError> {
+    let part = format!(in alloc; ".{name}.part{number}")?;
+    path_in(alloc, folder, part.as_str())
+}
+
+// A file that was not there; None where one was.
+fn create_part<F: Files>(files: &F, path: &PathBuf) -> Result<Option<F::File>, ShelfError> {
+    match File::create_new(files, path) {
+        Ok(file) => Ok(Some(file)),
+        Err(e) if e.kind() == ErrorKind::AlreadyExists => Ok(None),
+        Err(_) => Err(ShelfError::Failed),
     }
 }
 
@@ -55,15 +70,17 @@ fn create_beside<F: Files>(
     name: &str,
 ) -> Result<(PathBuf, F::File), ShelfError> {
     for number in 0..PART_LIMIT {
-        let beside = format!(in alloc; ".{name}.part{number}")?;
-        let path = path_in(alloc, folder, beside.as_str())?;
-        match File::create_new(files, &path) {
-            Ok(file) => return Ok((path, file)),
-            Err(e) if e.kind() == ErrorKind::AlreadyExists => {}
-            Err(_) => return Err(ShelfError::Failed),
+        let path = part_path(alloc, folder, name, number)?;
+        if let Some(file) = create_part(files, &path)? {
+            return Ok((path, file));
         }
     }
-    Err(ShelfError::Failed)
+    let path = part_path(alloc, folder, name, 0)?;
+    let _ = fs::remove_file(files, &path);
+    match create_part(files, &path)? {
+        Some(file) => Ok((path, file)),
+        None => Err(ShelfError::Failed),
+    }
 }
 
 impl<'a, F: Files> FolderShelf<'a, F> {
