@@ -1,5 +1,5 @@
 -- The marks after a step, and a call that falls asleep.
-use Rattle.std.proofs.Common.{◌≡◌, ◌≢◌, ◌≤◌, ℕ, zero, suc, Bool, true, false, cond, not, ◌||◌, ◌&&◌, nat_eq, List, [], ◌∷◌, ◌++◌, length, map, set, Option, Some, None, Result, refl, sym, ap, ◌∙◌, subst, append_assoc, arith}
+use Rattle.std.proofs.Common.{◌≡◌, ◌≢◌, ◌≤◌, ℕ, zero, suc, Bool, true, false, cond, not, ◌||◌, ◌&&◌, nat_eq, List, [], ◌∷◌, ◌++◌, set, Option, Some, None, Result, refl, sym, ap, ◌∙◌, subst, append_assoc, arith}
 use Rattle.std.proofs.Math.Path.{ap₂}
 use Rattle.std.proofs.lemmas.Bool.Decides.{nat_tests}
 use Rattle.std.proofs.lemmas.List.{append-nil, map-append}
@@ -23,7 +23,6 @@ use Rattle.pcm_base.specs.declared.sleeper.Sleeper.{Sleeper}
 use Rattle.pcm_base.specs.declared.sleeper.Task.{Task}
 use Rattle.pcm_base.specs.declared.sleeper.Task.TheVariants as task
 use Rattle.pcm_base.specs.declared.state.Dir.{Dir}
-use Rattle.pcm_base.specs.declared.state.Dir.TheVariants as dir
 use Rattle.pcm_base.specs.declared.state.Errno.{Errno}
 use Rattle.pcm_base.specs.declared.state.Errno.TheVariants as errno
 use Rattle.pcm_base.specs.declared.state.State.{State}
@@ -33,7 +32,7 @@ use Rattle.pcm_base.specs.model.Acts.{after, after_all, members_after, subs, tab
 use Rattle.pcm_base.specs.model.Events.{watch}
 use Rattle.pcm_base.specs.model.Group.{mark, marked, put_stream, stream_of}
 use Rattle.pcm_base.specs.model.Permit.{permit}
-use Rattle.pcm_base.specs.model.Program.{Answer, Ends, Makes, Program, fails, going_on, making, says}
+use Rattle.pcm_base.specs.model.Program.{Makes, Program, fails, going_on, making, says}
 use Rattle.pcm_base.specs.model.Replay.{Distinct, is_member}
 use Rattle.pcm_base.specs.model.Sleep.{without_client}
 use Rattle.pcm_base.specs.model.Sound.{Sound, SoundAt, is_set_up}
@@ -42,17 +41,16 @@ use Rattle.pcm_base.specs.model.Transfer.{sleeping}
 use Rattle.pcm_base.specs.model.World.{nobody}
 use Rattle.pcm_laws.proofs.KeptByPrograms.{Sound-sleepers}
 use Rattle.pcm_laws.proofs.Leaves.{IsSameBesideActs-after}
-use Rattle.sleepers.specs.Clients.{AreApart, has_client, is_of, others_than}
+use Rattle.sleepers.specs.Clients.{AreApart, has_client, is_of}
 use Rattle.sleepers.specs.Marks.{AreMarks, waiting}
 use Rattle.sleepers.proofs.ClientLemmas.{filter-none}
 use Rattle.sleepers.proofs.MarkLemmas.{AreMarks-take}
 use Rattle.pcm_stream.specs.declared.members.Member.{Member}
 use Rattle.pcm_stream.specs.declared.substream.Substream.{Substream}
 use Rattle.pcm_stream.specs.MembersStand.{AllStandFor, CallsFit, IsMember, MemberStandsFor, TaskFits}
-use Rattle.pcm_stream.specs.StandsFor.{Shows, StandsFor}
+use Rattle.pcm_stream.specs.StandsFor.{StandsFor}
 use Rattle.pcm_stream.proofs.MemberLemmas.{CallsFit-same}
-use Rattle.group_trigger.specs.Votes.{IsActed}
-use Rattle.pcm_group.specs.Ended.{IsAt, IsEnded, IsEndedBy, IsMade, RunsTo, error_of}
+use Rattle.pcm_group.specs.Ended.{IsEnded, IsEndedBy, IsMade, error_of}
 use Rattle.pcm_group.specs.Waiting.{calls_of, is_free}
 use Rattle.pcm_group.proofs.EndedLemmas.{RunsTo-act, goes}
 use Rattle.pcm_group.proofs.PlaceLemmas.{both_true, is_member-at, nat_eq-self, other_number, put_absent}
@@ -62,7 +60,7 @@ use Rattle.pcm_group.proofs.PlaceLemmas.{both_true, is_member-at, nat_eq-self, o
 pub marks_without : (c : ClientId) (marks : List ClientId) (xs : List Sleeper) → has_client c xs ≡ false → AreMarks marks xs → AreMarks (without_client c marks) xs
 marks_without c marks xs none h = subst (λ (l : List Sleeper). AreMarks (without_client c marks) l) (filter-none (is_of c) xs none) (AreMarks-take c marks xs h)
 
-awake_marks : (r : Reply) (c : ClientId) (cs : List ClientId) → r ≢ reply.Asleep → marked r c cs ≡ without_client c cs
+pub awake_marks : (r : Reply) (c : ClientId) (cs : List ClientId) → r ≢ reply.Asleep → marked r c cs ≡ without_client c cs
 awake_marks reply.Ok c cs h = refl
 awake_marks (reply.Frames n) c cs h = refl
 awake_marks (reply.Moved n) c cs h = refl
@@ -188,10 +186,6 @@ fit_last : (s : Stream) (ps : List Waiting) (p : Waiting) → TaskFits s p.task 
 fit_last s [] p h fit = (h, tt)
 fit_last s (q ∷ ps) p h fit = (fit.0, fit_last s ps p h fit.1)
 
-task_same : (s : Stream) (ps : List Waiting) (w : Task) → TaskFits s w → TaskFits (record s { sleepers = ps }) w
-task_same s ps (task.Transfer x wanted) h = record { writing = h.writing; layout = h.layout; mode = h.mode; rest = h.rest; bytes = h.bytes }
-task_same s ps task.Drain h = h
-
 IsMember-asleep : (sub : SubId) (calls new : List Sleeper) (x : ModelMember) (c : ClientId) (w : Task) → new ≡ calls ++ record { client = c; asleep = true; task = w } ∷ [] → AreApart new
     → ((marks : List ClientId) → AreMarks marks calls → AreMarks (c ∷ without_client c marks) new) → TaskFits x.stream w → IsMember sub calls x
     → IsMember sub new (record x { stream = sleeping (record { client = c; task = w }) x.stream; asleep = c ∷ without_client c x.asleep })
@@ -204,7 +198,7 @@ IsMember-asleep sub calls new x c w is apart marks fits h = record {
   fit = CallsFit-same x.stream (sleeping (record { client = c; task = w }) x.stream) (x.stream.sleepers ++ record { client = c; task = w } ∷ []) refl refl (fit_last x.stream x.stream.sleepers (record { client = c; task = w }) fits h.fit);
 }
 
-mark_absent : (k : SubId) (r : Reply) (c : ClientId) (xs : List ModelMember) → is_member k (subs xs) ≡ false → mark k r c xs ≡ xs
+pub mark_absent : (k : SubId) (r : Reply) (c : ClientId) (xs : List ModelMember) → is_member k (subs xs) ≡ false → mark k r c xs ≡ xs
 mark_absent k r c [] h = refl
 mark_absent k r c (x ∷ xs) h = ap₂ (λ b l. record x { asleep = cond b (marked r c x.asleep) x.asleep } ∷ l) (no_left (nat_eq x.sub.0 k.0) (is_member k (subs xs)) h) (mark_absent k r c xs (no_right (nat_eq x.sub.0 k.0) (is_member k (subs xs)) h))
   where

@@ -14,15 +14,14 @@ use Rattle.pcm_base.specs.declared.ids.SubId.{SubId}
 use Rattle.pcm_base.specs.declared.reply.Reply.{Reply}
 use Rattle.pcm_base.specs.declared.reply.Reply.TheVariants as reply
 use Rattle.pcm_base.specs.declared.sleeper.Xfer.{Xfer}
-use Rattle.pcm_base.specs.declared.state.Dir.{Dir}
 use Rattle.pcm_base.specs.declared.votes.Acted.{Acted}
-use Rattle.pcm_base.specs.model.Acts.{members_after, table}
+use Rattle.pcm_base.specs.model.Acts.{table}
 use Rattle.pcm_base.specs.model.Frame.{Frame}
 use Rattle.pcm_base.specs.model.Group.{stream_of}
 use Rattle.pcm_base.specs.model.Program.{Answer, Ends, Makes, Program, or_epipe, says, unless, updated_or_epipe, updating}
 use Rattle.pcm_base.specs.model.Replay.{bytes_by}
-use Rattle.pcm_base.specs.model.Stream.{Setup, Stream, Member as ModelMember}
-use Rattle.pcm_base.specs.model.Transfer.{fits, frames_by, read_on, start_reading, write_on}
+use Rattle.pcm_base.specs.model.Stream.{Stream, Member as ModelMember}
+use Rattle.pcm_base.specs.model.Transfer.{fits, frames_by, read_on, write_on}
 use Rattle.pcm_base.specs.model.Update.{Refreshed, found, moved_up, settled, update}
 use Rattle.pcm_base.specs.model.Words.{is_prepared}
 use Rattle.ring_memory.specs.Round.{over}

@@ -1,5 +1,5 @@
 -- What programs of a group end with.
-use Rattle.std.proofs.Common.{◌≡◌, ◌≢◌, ℕ, Bool, true, false, cond, List, [], ◌∷◌, ◌++◌, length, set, Option, Some, None, Result, Ok, Err, MatchResult, OnOk, IfErr, refl, sym, ap, ◌∙◌, subst, append_assoc}
+use Rattle.std.proofs.Common.{◌≡◌, ◌≢◌, ℕ, Bool, true, false, cond, List, [], ◌∷◌, ◌++◌, set, Option, Some, None, Result, Ok, Err, MatchResult, refl, sym, ap, ◌∙◌, subst, append_assoc}
 use Rattle.std.proofs.lemmas.List.{append-nil}
 use Rattle.std.specs.List.{slice_get}
 use Rattle.pcm_base.specs.declared.act.Act.{Act}
@@ -10,7 +10,6 @@ use Rattle.pcm_base.specs.declared.act.Updated.{Updated}
 use Rattle.pcm_base.specs.declared.act.Updated.TheVariants as updated
 use Rattle.pcm_base.specs.declared.call.CallKind.{CallKind}
 use Rattle.pcm_base.specs.declared.card.Card.{Ghosts}
-use Rattle.pcm_base.specs.declared.ids.ClientId.{ClientId}
 use Rattle.pcm_base.specs.declared.ids.SubId.{SubId}
 use Rattle.pcm_base.specs.declared.reply.Reply.{Reply}
 use Rattle.pcm_base.specs.declared.reply.Reply.TheVariants as reply
@@ -27,7 +26,7 @@ use Rattle.pcm_base.specs.model.Program.{Answer, Ends, Makes, Program, act_alone
 use Rattle.pcm_base.specs.model.Replay.{Distinct}
 use Rattle.pcm_base.specs.model.Stream.{Stream, Waiting, Member as ModelMember}
 use Rattle.pcm_base.specs.model.Update.{Refreshed, found, moved_up, settled, update}
-use Rattle.pcm_laws.proofs.Decomposition.{stream_of-put_stream_same, subs-put_stream}
+use Rattle.pcm_laws.proofs.Decomposition.{stream_of-put_stream_same}
 use Rattle.pcm_laws.proofs.Marks.{put_stream-own}
 use Rattle.pcm_stream.specs.declared.members.Member.{Member}
 use Rattle.pcm_stream.specs.declared.substream.Substream.{Substream}

@@ -1,8 +1,8 @@
 -- An event on its own member: what it does not look at, and who calls.
-use Rattle.std.proofs.Common.{◌≡◌, ℕ, Bool, true, false, cond, not, ◌||◌, ◌&&◌, List, [], ◌∷◌, All, ◌++◌, length, Option, Some, None, refl, sym, ap, ◌∙◌, subst}
+use Rattle.std.proofs.Common.{◌≡◌, ℕ, zero, suc, Bool, true, false, cond, not, ◌||◌, ◌&&◌, nat_eq, List, [], ◌∷◌, length, Option, Some, None, refl, sym, ap, ◌∙◌, subst}
 use Rattle.std.proofs.Math.Path.{ap₂}
 use Rattle.std.proofs.lemmas.List.Elements.{recursion_from_All}
-use Rattle.std.specs.List.{AllByRecursion}
+use Rattle.std.specs.List.{AllByRecursion, slice_get}
 use Rattle.std.specs.Option.{ForSome}
 use Rattle.pcm_base.specs.declared.call.Call.{Call}
 use Rattle.pcm_base.specs.declared.call.Call.TheVariants as call
@@ -14,21 +14,25 @@ use Rattle.pcm_base.specs.declared.reply.Reply.{Reply}
 use Rattle.pcm_base.specs.declared.votes.Acted.{Acted}
 use Rattle.pcm_base.specs.model.Events.{event}
 use Rattle.pcm_base.specs.model.Program.{Answer, Program}
-use Rattle.pcm_base.specs.model.Replay.{layout_of, reading_length}
+use Rattle.pcm_base.specs.model.Replay.{Distinct, is_member, layout_of, reading_length}
+use Rattle.pcm_laws.proofs.Decomposition.{left_of, right_of}
 use Rattle.pcm_group.specs.Transfers.{bytes_with}
 use Rattle.pcm_base.specs.model.Stream.{Stream, Member as ModelMember}
 use Rattle.sleepers.specs.Clients.{has_client}
 use Rattle.pcm_stream.specs.declared.members.Member.{Member}
+use Rattle.pcm_stream.specs.Members.{all_differ, numbers_of}
 use Rattle.pcm_stream.specs.MembersStand.{AllStandFor}
 use Rattle.pcm_group.specs.Built.{is_act_call, is_own_call, is_waiting_call, own_frames}
 use Rattle.pcm_group.specs.Bytes.{bytes_left}
 use Rattle.pcm_group.specs.Carried.{IsCarriedBy}
 use Rattle.pcm_group.specs.Lent.{is_lent_call, is_reading}
 use Rattle.pcm_group.specs.Ended.{IsEndedBy, RunsTo}
-use Rattle.pcm_group.specs.Turn.{caller_of, frames_moved, is_card_event, may_want_memory}
-use Rattle.pcm_group.specs.Waiting.{calls_of, is_free}
-use Rattle.pcm_group.proofs.AsleepLemmas.{IsEndedBy-at, nobody_free}
+use Rattle.pcm_group.specs.Turn.{caller_of, frames_moved, is_card_event, is_group_call, may_want_memory}
+use Rattle.pcm_group.specs.Waiting.{IsFreeFor, calls_of, is_free, is_free_but, is_free_for, is_its_own}
+use Rattle.pcm_group.proofs.AsleepLemmas.{nobody_free}
 use Rattle.pcm_group.proofs.BeginLemmas.{none_moved, run_alike}
+use Rattle.pcm_group.proofs.GoingLemmas.{free_short, free_there}
+use Rattle.pcm_group.proofs.PlaceLemmas.{distinct_of, is_member-at, other_number}
 
 -- the calls that wait for nothing and are lent nothing look at no bytes
 pub io_unused : (e : Call) (c : ClientId) (linked : Bool) (io : List ℕ) (s : Stream) → (is_own_call e || is_act_call e) ≡ true → event e c linked io s ≡ event e c linked [] s
@@ -69,17 +73,48 @@ io_unused call.Unlink c linked io s h = absurd (let no : ⊥ = cc in no)
 io_unused call.Go c linked io s h = absurd (let no : ⊥ = cc in no)
 io_unused call.Give c linked io s h = absurd (let no : ⊥ = cc in no)
 
-all_free : {C : Type 0} {g : Ghosts C} (c : ClientId) (ms : List (Member C g)) → AllByRecursion (λ m. has_client c m.sleepers ≡ false) ms → is_free c (calls_of ms) ≡ true
+-- ---- who calls
+
+-- the caller of an event that is no call which may wait has no call in progress
+pub caller_free : {C : Type 0} {g : Ghosts C} (e : Call) (i : ℕ) (o : Option ClientId) (ms : List (Member C g)) (xs : List ModelMember) → AllStandFor ms xs → is_waiting_call e ≡ false → ForSome o (λ c. is_free_for e i c (calls_of ms) ≡ true)
+    → is_free (caller_of o) (calls_of ms) ≡ true
+caller_free e i None ms xs h idle free = nobody_free ms xs h
+caller_free e i (Some c) ms xs h idle free = free_short e i c (calls_of ms) idle (free c refl)
+
+-- nor has that of an event of a member on which no call is in progress
+pub caller_free_there : {C : Type 0} {g : Ghosts C} (e : Call) (i : ℕ) (o : Option ClientId) (ms : List (Member C g)) (m : Member C g) (xs : List ModelMember) → AllStandFor ms xs → slice_get ms i ≡ Some m → ((c : ClientId) → has_client c m.sleepers ≡ false)
+    → ForSome o (λ c. is_free_for e i c (calls_of ms) ≡ true) → is_free (caller_of o) (calls_of ms) ≡ true
+caller_free_there e i None ms m xs h at none free = nobody_free ms xs h
+caller_free_there e i (Some c) ms m xs h at none free = free_there e i c ms m at (free c refl) (none c)
+
+all_free : {C : Type 0} {g : Ghosts C} (c : ClientId) (ms : List (Member C g)) → AllByRecursion (λ m. false ≡ false → has_client c m.sleepers ≡ false) ms → is_free c (calls_of ms) ≡ true
 all_free c [] h = refl
-all_free c (m ∷ ms) h = ap₂ (λ a b. not a && b) h.0 (all_free c ms h.1)
+all_free c (m ∷ ms) h = ap₂ (λ a b. not a && b) (h.0 refl) (all_free c ms h.1)
 
--- the caller has no call in progress
-pub caller_free : {C : Type 0} {g : Ghosts C} (o : Option ClientId) (ms : List (Member C g)) (xs : List ModelMember) → AllStandFor ms xs → ForSome o (λ c. All (λ m. has_client c m.sleepers ≡ false) ms) → is_free (caller_of o) (calls_of ms) ≡ true
-caller_free None ms xs h free = nobody_free ms xs h
-caller_free (Some c) ms xs h free = all_free c ms (recursion_from_All _ ms (free c refl))
+-- none of these members is the one that the call names
+absent_free : {C : Type 0} {g : Ghosts C} (k : SubId) (c : ClientId) (ms : List (Member C g)) → is_member k (numbers_of ms) ≡ false → AllByRecursion (λ m. nat_eq m.sub.0 k.0 ≡ false → has_client c m.sleepers ≡ false) ms → is_free c (calls_of ms) ≡ true
+absent_free k c [] absent h = refl
+absent_free k c (m ∷ ms) absent h =
+    ap₂ (λ a b. not a && b) (h.0 (left_of (nat_eq m.sub.0 k.0) (is_member k (numbers_of ms)) absent)) (absent_free k c ms (right_of (nat_eq m.sub.0 k.0) (is_member k (numbers_of ms)) absent) h.1)
 
-pub client_free : {C : Type 0} {g : Ghosts C} (o : Option ClientId) (c : ClientId) (ms : List (Member C g)) → o ≡ Some c → ForSome o (λ c. All (λ m. has_client c m.sleepers ≡ false) ms) → is_free c (calls_of ms) ≡ true
-client_free o c ms is free = all_free c ms (recursion_from_All _ ms (free c is))
+others_free : {C : Type 0} {g : Ghosts C} (k : SubId) (i : ℕ) (c : ClientId) (ms : List (Member C g)) → Distinct (numbers_of ms) → slice_get (numbers_of ms) i ≡ Some k
+    → AllByRecursion (λ m. nat_eq m.sub.0 k.0 ≡ false → has_client c m.sleepers ≡ false) ms → is_free_but i c (calls_of ms) ≡ true
+others_free k i c [] d number h = refl
+others_free k zero c (m ∷ ms) d number h =
+    let e : m.sub ≡ k = cc in
+    absent_free k c ms (ap (λ (j : SubId). is_member j (numbers_of ms)) (sym e) ∙ d.0) h.1
+others_free k (suc i) c (m ∷ ms) d number h =
+    ap₂ (λ a b. not a && b) (h.0 (other_number m.sub k (numbers_of ms) d.0 (is_member-at (numbers_of ms) i k number))) (others_free k i c ms d.1 number h.1)
+
+free_by : {C : Type 0} {g : Ghosts C} (e : Call) (k : SubId) (i : ℕ) (c : ClientId) (ms : List (Member C g)) → Distinct (numbers_of ms) → slice_get (numbers_of ms) i ≡ Some k
+    → AllByRecursion (λ m. is_its_own e k m.sub ≡ false → has_client c m.sleepers ≡ false) ms → is_free_for e i c (calls_of ms) ≡ true
+free_by call.Go k i c ms d number h = others_free k i c ms d number h
+free_by _ k i c ms d number h = all_free c ms h
+
+-- who has no call but the one that goes on, by the place of its member
+pub client_free : {C : Type 0} {g : Ghosts C} (e : Call) (k : SubId) (i : ℕ) (o : Option ClientId) (ms : List (Member C g)) → all_differ (numbers_of ms) ≡ true → slice_get (numbers_of ms) i ≡ Some k → ForSome o (λ c. IsFreeFor e k c ms)
+    → ForSome o (λ c. is_free_for e i c (calls_of ms) ≡ true)
+client_free e k i o ms differ number free = λ c is. free_by e k i c ms (distinct_of (numbers_of ms) differ) number (recursion_from_All _ ms (free c is))
 
 -- ---- the frames and the bytes of an event
 
@@ -103,14 +138,21 @@ pub waiting_is_called : (e : Call) → is_waiting_call e ≡ true → is_card_ev
 waiting_is_called (call.Drain m) h k = let no : ⊥ = cc in no
 waiting_is_called (call.Write w m) h k = let no : ⊥ = cc in no
 waiting_is_called (call.Read w m n) h k = let no : ⊥ = cc in no
+waiting_is_called call.Go h k = let no : ⊥ = cc in no
 waiting_is_called _ h k = let no : ⊥ = cc in no
 
--- a call that is built, does not wait and is lent nothing
-pub short_call : (a b w l : Bool) → (a || (b || (w || l))) ≡ true → w ≡ false → l ≡ false → (a || b) ≡ true
-short_call true b w l h k m = refl
-short_call false true w l h k m = refl
-short_call false false true l h k m = absurd (let no : ⊥ = cc in no)
-short_call false false false l h k m = absurd (let no : true ≡ false = sym h ∙ m in cc)
+-- a call of one group that does not wait and is lent nothing
+pub short_call : (e : Call) → is_group_call e ≡ true → is_waiting_call e ≡ false → is_lent_call e ≡ false → (is_own_call e || is_act_call e) ≡ true
+short_call (call.Link j) h k m = absurd (let no : ⊥ = cc in no)
+short_call call.Unlink h k m = absurd (let no : ⊥ = cc in no)
+short_call (call.Drain w) h k m = absurd (let no : ⊥ = cc in no)
+short_call (call.Write w v) h k m = absurd (let no : ⊥ = cc in no)
+short_call (call.Read w v n) h k m = absurd (let no : ⊥ = cc in no)
+short_call call.Go h k m = absurd (let no : ⊥ = cc in no)
+short_call (call.Store o) h k m = absurd (let no : ⊥ = cc in no)
+short_call (call.Load o n) h k m = absurd (let no : ⊥ = cc in no)
+short_call call.Give h k m = absurd (let no : ⊥ = cc in no)
+short_call _ h k m = refl
 
 -- a call that wants memory reads no bytes
 pub wanting_reads_none : (e : Call) → may_want_memory e ≡ true → is_reading e ≡ false

@@ -1,5 +1,5 @@
 -- The counts of faults, and who tells a plan, through what an event does.
-use Rattle.std.proofs.Common.{◌≡◌, ℕ, zero, suc, Bool, List, [], ◌∷◌, ◌++◌, map, set, Some, refl, sym, ap, ◌∙◌, subst}
+use Rattle.std.proofs.Common.{◌≡◌, ℕ, zero, suc, List, [], ◌∷◌, ◌++◌, map, set, Some, refl, sym, ap, ◌∙◌, subst}
 use Rattle.std.specs.List.{slice_get}
 use Rattle.pcm_base.specs.declared.card.Card.{Ghosts}
 use Rattle.pcm_base.specs.declared.votes.Acted.{Acted}
@@ -7,7 +7,7 @@ use Rattle.pcm_stream.specs.declared.members.Member.{Member}
 use Rattle.pcm_stream.specs.Members.{all_faults}
 use Rattle.pcm_stream.specs.StandsFor.{faults_of, tells_plan}
 use Rattle.group_trigger.specs.Votes.{FaultsBy, all_tell}
-use Rattle.pcm_group.specs.Faults.{FaultsOver, FaultsThen, KeepsCards}
+use Rattle.pcm_group.specs.Faults.{FaultsOver, KeepsCards}
 
 -- an element that is set and has what the old one had
 pub map-at : {A B : Type 0} (f : A → B) (xs : List A) (i : ℕ) (x y : A) → slice_get xs i ≡ Some x → f y ≡ f x → map f (set xs i y) ≡ map f xs

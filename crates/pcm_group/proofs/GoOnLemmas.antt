@@ -1,5 +1,5 @@
 -- A transfer that is carried on over its group: the turns of one member, and the start of all.
-use Rattle.std.proofs.Common.{◌≡◌, ◌≢◌, ℕ, ◌+◌, ◌*◌, ◌^◌, ◌%◌, ◌/◌, ◌<◌, Bool, true, false, cond, nat_eq, zero, suc, List, [], ◌∷◌, ◌++◌, length, map, replicate, set, drop, Option, Some, None, refl, sym, ap, ◌∙◌, subst, arith}
+use Rattle.std.proofs.Common.{◌≡◌, ◌≢◌, ℕ, ◌+◌, ◌*◌, ◌^◌, ◌%◌, ◌/◌, ◌<◌, Bool, true, false, cond, nat_eq, zero, suc, List, [], ◌∷◌, ◌++◌, length, replicate, set, drop, Option, Some, None, refl, sym, ap, ◌∙◌, subst, arith}
 use Rattle.std.proofs.lemmas.Bool.Decides.{nat_tests}
 use Rattle.std.specs.List.{slice_get}
 use Rattle.std.specs.Prelude.{IsSome}
@@ -26,19 +26,19 @@ use Rattle.pcm_base.specs.declared.votes.Acted.{Acted}
 use Rattle.pcm_base.specs.model.Acts.{after, after_all, decide, is_refused, members_after, pre, refusing, subs}
 use Rattle.pcm_base.specs.model.Frame.{Frame}
 use Rattle.pcm_base.specs.model.Group.{put_stream, stream_of}
-use Rattle.pcm_base.specs.model.Program.{Answer, Makes, Program}
+use Rattle.pcm_base.specs.model.Program.{Answer, Program}
 use Rattle.pcm_base.specs.model.Stream.{Setup, Stream, Member as ModelMember}
-use Rattle.pcm_base.specs.model.Transfer.{after_start, fits, frames_or, frames_by, tells as telling, write_on}
+use Rattle.pcm_base.specs.model.Transfer.{after_start, fits, frames_or, tells as telling}
 use Rattle.pcm_base.specs.model.Words.{is_playback, is_prepared}
 use Rattle.pcm_laws.proofs.Decomposition.{stream_of-put_stream_same}
 use Rattle.pcm_laws.proofs.Leaves.{IsSameBesideActs-after}
 use Rattle.pcm_laws.proofs.Turns.{write_on-started}
 use Rattle.pcm_stream.specs.declared.members.Member.{Member}
 use Rattle.pcm_stream.specs.Members.{Fixed, all_fixed, fixed_of}
-use Rattle.pcm_stream.specs.MembersStand.{AllStandFor, IsTransferOn}
+use Rattle.pcm_stream.specs.MembersStand.{IsTransferOn}
 use Rattle.pcm_stream.specs.StandsFor.{StandsFor, shape_in}
 use Rattle.group_trigger.specs.Votes.{IsActed, TriedBy, VotedBy}
-use Rattle.xfer_loop.specs.Loop.{IsOnTheWay, after_stuck}
+use Rattle.xfer_loop.specs.Loop.{after_stuck}
 use Rattle.xfer_loop.specs.declared.XferStep.{XferStep}
 use Rattle.xfer_loop.specs.declared.XferStep.TheVariants as step
 use Rattle.pcm_group.specs.Ended.{IsAt, IsEndedBy, KeepsCalls, RunsTo, error_of}

@@ -16,3 +16,4 @@ pub mod CarryLemmas
 pub mod GoOnLemmas
 pub mod SizeLemmas
 pub mod BeginLemmas
+pub mod GoingLemmas

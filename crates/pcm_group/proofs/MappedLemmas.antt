@@ -1,5 +1,5 @@
 -- What events that look at the bytes of their call end with.
-use Rattle.std.proofs.Common.{◌≡◌, ◌<◌, ◌≤◌, ◌+◌, ◌*◌, ◌/◌, ◌%◌, ℕ, zero, suc, Bool, List, [], ◌∷◌, length, drop, Option, None, Some, Result, Ok, Err, MatchResult, IsSome, IfSome, IfOk, IfErr, OnErr, refl, sym, ap, ◌∙◌, subst, arith, mul-div_cancel}
+use Rattle.std.proofs.Common.{◌≡◌, ◌<◌, ◌+◌, ◌*◌, ◌/◌, ◌%◌, ℕ, zero, suc, Bool, List, length, drop, Option, None, Some, Result, Ok, Err, MatchResult, IsSome, IfSome, IfOk, IfErr, OnErr, refl, sym, ap, ◌∙◌, subst, arith, mul-div_cancel}
 use Rattle.std.proofs.Math.Nat.{mul-mod_left}
 use Rattle.std.specs.Option.{ForSome}
 use Rattle.pcm_base.specs.declared.call.Call.TheVariants as call
@@ -17,7 +17,7 @@ use Rattle.pcm_base.specs.model.Standing.{Put, standing_at}
 use Rattle.pcm_base.specs.model.Stream.{Stream, zero_frame}
 use Rattle.pcm_base.specs.model.Transfer.{frames_in}
 use Rattle.pcm_stream.specs.declared.substream.Substream.{Substream}
-use Rattle.pcm_stream.specs.Buffer.{loaded_from, stored_at, with_to_give}
+use Rattle.pcm_stream.specs.Buffer.{loaded_from, stored_at}
 use Rattle.pcm_stream.specs.StandsFor.{IsShapeOf, StandsFor}
 use Rattle.mmap_pages.specs.Mapped.{count_in, load_refusal, store_refusal}
 use Rattle.pcm_group.specs.Ended.{IsOwnEnd}

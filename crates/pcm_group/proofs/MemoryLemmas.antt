@@ -1,5 +1,5 @@
 -- A wake check of members of whom all that are asleep may wait.
-use Rattle.std.proofs.Common.{◌≡◌, ℕ, Bool, true, false, cond, not, ◌||◌, ◌&&◌, nat_eq, List, [], ◌∷◌, ◌++◌, refl, sym, ap, ◌∙◌, subst, arith}
+use Rattle.std.proofs.Common.{◌≡◌, Bool, true, false, cond, not, ◌||◌, ◌&&◌, nat_eq, List, [], ◌∷◌, ◌++◌, refl, sym, ap, ◌∙◌, subst, arith}
 use Rattle.std.proofs.Math.Path.{ap₂}
 use Rattle.std.proofs.lemmas.Bool.Decides.{nat_tests}
 use Rattle.std.proofs.lemmas.List.Elements.{All-from_recursion, recursion_from_All}
@@ -10,7 +10,7 @@ use Rattle.pcm_base.specs.declared.ids.SubId.{SubId}
 use Rattle.pcm_base.specs.declared.sleeper.Sleeper.{Sleeper}
 use Rattle.pcm_base.specs.model.Sleep.{is_among, may_wait, sleepers_that, wake_members, woken_in}
 use Rattle.pcm_base.specs.model.Stream.{Stream, Waiting, Member as ModelMember}
-use Rattle.sleepers.specs.Marks.{AreMarks, waiting}
+use Rattle.sleepers.specs.Marks.{waiting}
 use Rattle.pcm_stream.specs.declared.members.Member.{Member}
 use Rattle.pcm_stream.specs.MembersStand.{AllStandFor, IsMember}
 use Rattle.pcm_group.specs.Waiting.{calls_wait, members_wait, woken_member}

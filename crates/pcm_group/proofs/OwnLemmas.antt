@@ -1,5 +1,5 @@
 -- What programs that make no act end with.
-use Rattle.std.proofs.Common.{◌≡◌, ℕ, Bool, true, false, cond, ◌||◌, ◌&&◌, nat_lt, nat_le, List, [], ◌∷◌, length, Option, None, Some, Result, Ok, Err, MatchResult, OnOk, IfErr, refl, sym, ap, ◌∙◌, subst, arith}
+use Rattle.std.proofs.Common.{◌≡◌, Bool, true, false, nat_lt, List, [], ◌∷◌, length, Option, None, Some, Result, Ok, Err, MatchResult, OnOk, IfErr, refl, sym, ap, ◌∙◌, subst, arith}
 use Rattle.std.proofs.lemmas.Bool.Decides.{nat_tests}
 use Rattle.pcm_base.specs.declared.call.CallKind.{CallKind}
 use Rattle.pcm_base.specs.declared.card.Card.{Ghosts}
@@ -9,7 +9,7 @@ use Rattle.pcm_base.specs.declared.state.Errno.{Errno}
 use Rattle.pcm_base.specs.declared.state.Errno.TheVariants as errno
 use Rattle.pcm_base.specs.model.Acts.{table}
 use Rattle.pcm_base.specs.model.Events.{if_held, is_busy}
-use Rattle.pcm_base.specs.model.Program.{Program, fails, says, unless}
+use Rattle.pcm_base.specs.model.Program.{fails, says, unless}
 use Rattle.pcm_base.specs.model.Stream.{Stream, Waiting}
 use Rattle.pcm_base.specs.model.Words.{when, ◌then◌}
 use Rattle.pcm_stream.specs.declared.substream.Substream.{Substream}

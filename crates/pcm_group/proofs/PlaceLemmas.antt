@@ -1,5 +1,5 @@
 -- The member at a place, and the members with another stream there.
-use Rattle.std.proofs.Common.{◌≡◌, ◌≢◌, ℕ, zero, suc, ◌+◌, ◌<◌, ◌≤◌, Bool, true, false, cond, not, ◌||◌, ◌&&◌, nat_eq, List, [], ◌∷◌, length, drop, map, set, Option, Some, None, refl, sym, ap, ◌∙◌, subst, arith}
+use Rattle.std.proofs.Common.{◌≡◌, ℕ, zero, suc, ◌≤◌, Bool, true, false, cond, not, ◌||◌, ◌&&◌, nat_eq, List, [], ◌∷◌, length, drop, map, set, Some, refl, sym, ap, ◌∙◌, subst, arith}
 use Rattle.std.proofs.Math.Path.{ap₂}
 use Rattle.std.proofs.lemmas.Bool.Decides.{nat_tests}
 use Rattle.std.specs.List.{slice_get}
@@ -13,17 +13,16 @@ use Rattle.pcm_base.specs.declared.votes.Acted.{Acted}
 use Rattle.pcm_base.specs.model.Acts.{after_all, members_after, subs}
 use Rattle.pcm_base.specs.model.Group.{put_stream, stream_of}
 use Rattle.pcm_base.specs.model.Replay.{Distinct, is_member}
-use Rattle.pcm_base.specs.model.Stream.{Stream, Waiting, Member as ModelMember}
-use Rattle.pcm_laws.proofs.Decomposition.{left_of, rest_of, right_of, same, subs-put_stream}
-use Rattle.pcm_laws.proofs.Marks.{put_stream-own}
+use Rattle.pcm_base.specs.model.Stream.{Stream, Member as ModelMember}
+use Rattle.pcm_laws.proofs.Decomposition.{left_of, right_of, same, subs-put_stream}
 use Rattle.pcm_stream.specs.declared.members.Member.{Member}
 use Rattle.pcm_stream.specs.declared.substream.Substream.{Substream}
-use Rattle.pcm_stream.specs.Members.{Fixed, all_differ, all_fixed, fixed_of, numbers_of}
-use Rattle.pcm_stream.specs.MembersStand.{AllStandFor, CallsFit, IsMember, MemberStandsFor}
+use Rattle.pcm_stream.specs.Members.{Fixed, all_differ, all_fixed, numbers_of}
+use Rattle.pcm_stream.specs.MembersStand.{AllStandFor, IsMember, MemberStandsFor}
 use Rattle.pcm_stream.specs.StandsFor.{StandsFor, tells_plan}
 use Rattle.group_trigger.specs.Votes.{all_tell}
-use Rattle.group_trigger.proofs.ListLemmas.{map-set}
 use Rattle.pcm_group.specs.Ended.{IsAt, KeepsCalls}
+use Rattle.pcm_group.proofs.FaultLemmas.{map-at}
 use Rattle.pcm_group.specs.Waiting.{calls_of}
 
 -- ---- numbers
@@ -178,7 +177,7 @@ pub IsAt-put : {C : Type 0} {g : Ghosts C} (ms : List (Member C g)) (i : ℕ) (m
     → IsAt (set ms i (record m { stream = t })) i k tells (put_stream k s xs)
 IsAt-put {C = C} {g = g} ms i m t k tells s xs h at keeps stands told =
     IsAt-by ms (set ms i (record m { stream = t })) i k tells xs (put_stream k s xs) h (put_stands ms i m t k s xs h.stands h.distinct h.number at keeps stands) (subs-put_stream k s xs)
-    (map-set (λ (n : Member C g). tells_plan n.stream) ms i m (record m { stream = t }) at told)
+    (map-at (λ (n : Member C g). tells_plan n.stream) ms i m (record m { stream = t }) at told)
 
 -- ---- the place of a number
 

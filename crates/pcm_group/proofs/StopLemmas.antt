@@ -1,5 +1,5 @@
 -- A stop that is done leaves no card of the group running.
-use Rattle.std.proofs.Common.{◌≡◌, Bool, true, false, cond, nat_eq, List, [], ◌∷◌, Some, None, refl, sym, ap, ◌∙◌, subst}
+use Rattle.std.proofs.Common.{◌≡◌, Bool, true, false, cond, nat_eq, List, [], ◌∷◌, None, refl, sym, ◌∙◌, subst}
 use Rattle.pcm_base.specs.declared.act.Act.{Act}
 use Rattle.pcm_base.specs.declared.act.Act.TheVariants as act
 use Rattle.pcm_base.specs.declared.act.Outcome.{Outcome}

@@ -1,12 +1,11 @@
 -- Where every card tells its fault plan, acts and runs are those of the model.
-use Rattle.std.proofs.Common.{◌≡◌, ℕ, Bool, true, false, cond, ◌&&◌, List, [], ◌∷◌, length, replicate, refl, sym, ap, ◌∙◌, subst}
+use Rattle.std.proofs.Common.{◌≡◌, Bool, true, false, cond, ◌&&◌, List, [], ◌∷◌, length, replicate, refl, sym, ap, ◌∙◌}
 use Rattle.pcm_base.specs.declared.act.Act.{Act}
-use Rattle.pcm_base.specs.declared.act.Outcome.{Outcome}
 use Rattle.pcm_base.specs.declared.act.Vote.{Vote}
 use Rattle.pcm_base.specs.declared.act.Vote.TheVariants as vote
 use Rattle.pcm_base.specs.declared.ids.SubId.{SubId}
 use Rattle.pcm_base.specs.declared.votes.Acted.{Acted}
-use Rattle.pcm_base.specs.model.Acts.{acted, decide, is_refused, members_after, refusing, subs, trips, trying, votes}
+use Rattle.pcm_base.specs.model.Acts.{acted, decide, is_refused, members_after, refusing, subs, trying, votes}
 use Rattle.pcm_base.specs.model.Group.{Run, behind, put_stream, run, stream_of}
 use Rattle.pcm_base.specs.model.Program.{Answer, Ends, Makes, Program}
 use Rattle.pcm_base.specs.model.Stream.{Member as ModelMember}

@@ -1,5 +1,5 @@
 -- The turns of a transfer: each goes on with what rests, or halts.
-use Rattle.std.proofs.Common.{◌≡◌, ◌≢◌, ℕ, ◌+◌, ◌-◌, ◌*◌, ◌/◌, ◌<◌, ◌≤◌, Bool, true, false, cond, not, ◌&&◌, nat_eq, List, [], ◌∷◌, ◌++◌, length, take, drop, min, append-nil, append_assoc, refl, sym, ap, ◌∙◌, subst, arith}
+use Rattle.std.proofs.Common.{◌≡◌, ◌≢◌, ℕ, ◌+◌, ◌-◌, ◌/◌, ◌<◌, ◌≤◌, Bool, true, false, cond, not, ◌&&◌, nat_eq, List, [], ◌++◌, length, take, drop, min, append-nil, append_assoc, refl, sym, ap, ◌∙◌, subst, arith}
 use Rattle.std.proofs.lemmas.Bool.Decides.{nat_tests}
 use Rattle.std.proofs.Math.Path.{ap₂}
 use Rattle.std.proofs.lemmas.List.{drop-drop, drop_at, nil_from_length, length-append, length-drop, length-take, length-take-le, take-append-drop, take_at}
@@ -12,14 +12,12 @@ use Rattle.pcm_base.specs.declared.card.Card.{Ghosts}
 use Rattle.pcm_base.specs.declared.ids.ClientId.{ClientId}
 use Rattle.pcm_base.specs.declared.reply.Reply.TheVariants as reply
 use Rattle.pcm_base.specs.declared.sleeper.Xfer.{Xfer}
-use Rattle.pcm_base.specs.declared.state.Dir.{Dir}
 use Rattle.pcm_base.specs.declared.state.Errno.TheVariants as errno
-use Rattle.pcm_base.specs.declared.config.Shape.{Shape}
 use Rattle.pcm_base.specs.Shape.{count_of}
 use Rattle.pcm_base.specs.declared.state.State.{State}
 use Rattle.pcm_base.specs.model.Frame.{Frame, bytes_across, frames_of, planar_frames}
 use Rattle.pcm_base.specs.model.PointerCalls.{on_by}
-use Rattle.pcm_base.specs.model.Program.{Program, Makes}
+use Rattle.pcm_base.specs.model.Program.{Makes}
 use Rattle.pcm_base.specs.model.Stream.{Setup, Stream, avail, zero_frame}
 use Rattle.pcm_base.specs.model.Transfer.{after_start, channels_of, frames_by, is_filled, put_next, read_next, read_on, tells, write_on}
 use Rattle.pcm_base.specs.model.Words.{is_draining, is_prepared}
@@ -36,8 +34,8 @@ use Rattle.std.specs.Option.{ForSome, option_map}
 use Rattle.std.specs.Prelude.{IsSome}
 use Rattle.std.specs.declared.option.Option.{Option}
 use Rattle.std.specs.declared.option.Option.TheVariants.{Some, None}
-use Rattle.xfer_loop.specs.Loop.{IsOnTheWay, after_stuck, read_after, write_after}
-use Rattle.xfer_loop.specs.Turn.{IsStuck, bytes_after, bytes_moved, frames_after, step_of, stream_after, stream_moved, stuck_step, xfer_after, xfer_moved}
+use Rattle.xfer_loop.specs.Loop.{IsOnTheWay, read_after, write_after}
+use Rattle.xfer_loop.specs.Turn.{IsStuck, bytes_after, bytes_moved, frames_after, step_of, stream_after, stuck_step, xfer_after, xfer_moved}
 use Rattle.xfer_loop.specs.declared.XferStep.{XferStep}
 use Rattle.xfer_loop.specs.declared.XferStep.TheVariants as step
 use Rattle.xfer_loop.proofs.LoopLemmas.{reads-by_turns, writes-by_turns}
@@ -440,13 +438,6 @@ all_size sub s x io k count h = by sub.runtime refl k
 
 pub itself : (x : Xfer) → IsOnTheWay x x []
 itself x = record { writing = refl; mode = refl; moved = omega arith }
-
-pub not_moved : (p : XferStep) → ((n : ℕ) → p ≡ step.Moved n → ⊥) → (p ≢ step.WantsStart) → IsStuck p
-not_moved (step.Moved n) h k = absurd (h n refl)
-not_moved step.WantsStart h k = absurd (k refl)
-not_moved (step.Wait n) h k = tt
-not_moved step.Drained h k = tt
-not_moved (step.Refuse e) h k = tt
 
 -- a turn that is the last
 pub last_by_turn : {C : Type 0} {g : Ghosts C} (c : ClientId) (x y z w : Xfer) (fs all : List Frame) (s : Stream) (io mid now : List ℕ) (p : XferStep) (sub next : Substream C g) → (u : IsUnderWay c x y z fs all s io mid sub) → IsOnTheWay x y fs

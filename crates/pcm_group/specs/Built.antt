@@ -1,10 +1,9 @@
--- The calls that are built, by what they do.
-use Rattle.std.specs.Prelude.{ℕ, Bool, true, false, ◌||◌, length}
+-- The calls of a group, by what they do.
+use Rattle.std.specs.Prelude.{ℕ, Bool, true, false, length}
 use Rattle.pcm_base.specs.declared.call.Call.{Call}
 use Rattle.pcm_base.specs.declared.call.Call.TheVariants as call
 use Rattle.pcm_base.specs.model.Movement.{move}
 use Rattle.pcm_base.specs.model.Stream.{Stream}
-use Rattle.pcm_group.specs.Lent.{is_lent_call}
 
 -- those that make no act
 abbrev pub is_own_call : Call → Bool
@@ -51,7 +50,5 @@ abbrev pub is_waiting_call : Call → Bool
 is_waiting_call (call.Drain m) = true
 is_waiting_call (call.Write w m) = true
 is_waiting_call (call.Read w m n) = true
+is_waiting_call call.Go = true
 is_waiting_call _ = false
-
-abbrev pub is_built_call : Call → Bool
-is_built_call e = is_own_call e || (is_act_call e || (is_waiting_call e || is_lent_call e))

@@ -1,10 +1,8 @@
 -- The bytes that an event is lent, and what it leaves in them.
-use Rattle.std.specs.Prelude.{◌≡◌, ◌≢◌, ℕ, Bool, true, false, not, ◌||◌, List, length, ◌+◌, ◌*◌, ◌≤◌}
-use Rattle.std.specs.Option.{ForSome}
+use Rattle.std.specs.Prelude.{◌≡◌, ℕ, Bool, true, false, not, ◌||◌, List, length}
 use Rattle.std.specs.declared.option.Option.{Option}
 use Rattle.pcm_base.specs.declared.call.Call.{Call}
 use Rattle.pcm_base.specs.declared.call.Call.TheVariants as call
-use Rattle.pcm_base.specs.declared.card.Card.{Ghosts}
 use Rattle.pcm_base.specs.declared.reply.Reply.{Reply}
 use Rattle.pcm_base.specs.declared.reply.Reply.TheVariants as reply
 use Rattle.pcm_base.specs.declared.state.Errno.{Errno}
@@ -13,10 +11,7 @@ use Rattle.pcm_base.specs.model.Frame.{bytes_of}
 use Rattle.pcm_base.specs.model.Stream.{Stream, is_bare}
 use Rattle.pcm_base.specs.model.Transfer.{frames_in, is_whole}
 use Rattle.pcm_base.specs.model.Words.{when, is_playback}
-use Rattle.pcm_stream.specs.declared.substream.Substream.{Substream}
 use Rattle.pcm_stream.specs.Buffer.{loaded_from}
-use Rattle.pcm_stream.specs.Mappings.{mappings_in}
-use Rattle.pcm_stream.specs.StandsFor.{shape_in}
 
 -- the events of one member that look at the bytes and make no act
 abbrev pub is_lent_call : Call → Bool
@@ -24,11 +19,6 @@ is_lent_call (call.Store o) = true
 is_lent_call (call.Load o n) = true
 is_lent_call call.Give = true
 is_lent_call _ = false
-
--- A Load of n frames that lie in the mapped buffer is lent the bytes of n frames.
-abbrev pub IsLent : {C : Type 0} {g : Ghosts C} → Call → Substream C g → List ℕ → Type 0
-IsLent (call.Load o n) sub io = ForSome (shape_in sub) (λ shape. mappings_in sub ≢ 0 → o + n ≤ shape.buffer → length io ≡ n * shape.frame_bytes)
-IsLent _ sub io = Unit {0}
 
 -- A Load that answers Frames leaves the frames that stand there in all of its bytes; any other answer leaves them as they were.
 abbrev pub Loads : Call → Stream → Reply → List ℕ → List ℕ → Type 0

@@ -9,3 +9,4 @@ pub mod Stepped
 pub mod Inside
 pub mod Transfers
 pub mod Bytes
+pub mod Going

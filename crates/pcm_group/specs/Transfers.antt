@@ -14,7 +14,6 @@ use Rattle.pcm_base.specs.declared.ids.SubId.{SubId}
 use Rattle.pcm_base.specs.declared.reply.Reply.TheVariants as reply
 use Rattle.pcm_base.specs.declared.sleeper.Xfer.{Xfer}
 use Rattle.pcm_base.specs.declared.state.Errno.TheVariants as errno
-use Rattle.pcm_base.specs.declared.state.State.{State}
 use Rattle.pcm_base.specs.model.Acts.{table}
 use Rattle.pcm_base.specs.model.Frame.{Frame}
 use Rattle.pcm_base.specs.model.Group.{put_stream, stream_of}

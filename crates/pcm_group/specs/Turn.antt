@@ -1,13 +1,11 @@
 -- What a step of a group tells and leaves.
-use Rattle.std.specs.Prelude.{◌≡◌, ◌≢◌, ℕ, Bool, true, false, not, ◌||◌, ◌&&◌, List, [], ◌∷◌, length, take, drop, ◌+◌, ◌*◌, if◌then◌else◌}
-use Rattle.std.specs.Option.{is_some}
+use Rattle.std.specs.Prelude.{ℕ, Bool, true, false}
 use Rattle.std.specs.declared.option.Option.{Option}
 use Rattle.std.specs.declared.option.Option.TheVariants.{Some, None}
 use Rattle.pcm_base.specs.declared.call.Call.{Call}
 use Rattle.pcm_base.specs.declared.call.Call.TheVariants as call
 use Rattle.pcm_base.specs.declared.call.Event.{Event}
 use Rattle.pcm_base.specs.declared.ids.ClientId.{ClientId}
-use Rattle.pcm_base.specs.model.Program.{Answer}
 use Rattle.pcm_base.specs.model.World.{nobody}
 
 -- Link and Unlink are no events of one group

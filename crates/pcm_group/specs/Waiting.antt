@@ -1,7 +1,10 @@
 -- The wake check over the members of a group, and who is left asleep.
-use Rattle.std.specs.Prelude.{◌≡◌, ℕ, zero, suc, Bool, true, false, not, ◌&&◌, ◌||◌, List, [], ◌∷◌, ◌++◌, map}
+use Rattle.std.specs.Prelude.{◌≡◌, ℕ, zero, suc, Bool, true, false, not, ◌&&◌, ◌||◌, nat_eq, List, All, [], ◌∷◌, ◌++◌, map}
+use Rattle.pcm_base.specs.declared.call.Call.{Call}
+use Rattle.pcm_base.specs.declared.call.Call.TheVariants as call
 use Rattle.pcm_base.specs.declared.card.Card.{Ghosts}
 use Rattle.pcm_base.specs.declared.ids.ClientId.{ClientId}
+use Rattle.pcm_base.specs.declared.ids.SubId.{SubId}
 use Rattle.pcm_base.specs.declared.sleeper.Sleeper.{Sleeper}
 use Rattle.pcm_base.specs.model.Sleep.{group_drains, is_among, may_wait, sleepers_that}
 use Rattle.pcm_base.specs.model.Stream.{Stream, Waiting, Member as ModelMember}
@@ -57,3 +60,23 @@ StreamsStandFor (m ∷ ms) (x ∷ xs) = StandsFor m.stream x.stream × StreamsSt
 abbrev pub is_free : ClientId → List (List Sleeper) → Bool
 is_free c [] = true
 is_free c (l ∷ ls) = not (has_client c l) && is_free c ls
+
+-- and on these but the one at the place
+abbrev pub is_free_but : ℕ → ClientId → List (List Sleeper) → Bool
+is_free_but i c [] = true
+is_free_but zero c (l ∷ ls) = is_free c ls
+is_free_but (suc i) c (l ∷ ls) = not (has_client c l) && is_free_but i c ls
+
+-- the client of an event of the member at the place has no call in progress, but on that member the one that goes on
+abbrev pub is_free_for : Call → ℕ → ClientId → List (List Sleeper) → Bool
+is_free_for call.Go i c ls = is_free_but i c ls
+is_free_for _ i c ls = is_free c ls
+
+-- j is the member that the client's own call to go on names
+abbrev pub is_its_own : Call → SubId → SubId → Bool
+is_its_own call.Go k j = nat_eq j.0 k.0
+is_its_own _ k j = false
+
+-- The client has no call in progress on these members, but on the one that its own Go names.
+abbrev pub IsFreeFor : {C : Type 0} {g : Ghosts C} → Call → SubId → ClientId → List (Member C g) → Type 0
+IsFreeFor e k c ms = All (λ m. is_its_own e k m.sub ≡ false → has_client c m.sleepers ≡ false) ms

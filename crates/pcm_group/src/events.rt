@@ -1,5 +1,5 @@
 // What each event does to a group (the ioctls of `pcm_native.c`).
-ghost use Rattle.std.specs.Prelude.{◌≡◌, ◌≢◌, ◌≤◌, ◌<◌, ◌||◌, ◌&&◌, not, ℕ, All, Bool, List, true, false, [], length, nat_lt, MatchResult, None, Some, slice_get};
+ghost use Rattle.std.specs.Prelude.{◌≡◌, ◌≢◌, ◌≤◌, ◌<◌, ◌||◌, ◌&&◌, not, Bool, List, true, false, [], length, nat_lt, MatchResult, None, Some, slice_get};
 ghost use Rattle.std.specs.Option.{ForSome, is_none, is_some};
 ghost use Rattle.pcm_base.specs.declared.act.Act.TheVariants as act;
 ghost use Rattle.pcm_base.specs.declared.act.Updated.TheVariants.{Nothing};
@@ -11,24 +11,25 @@ ghost use Rattle.pcm_base.specs.declared.votes.Acted.{Acted as ActedOf};
 ghost use Rattle.pcm_base.specs.model.Acts.{table};
 ghost use Rattle.pcm_base.specs.model.Events.{event as event_of, drain as drain_of, drain_now as drain_now_of, opens, program, unplug_alone as unplugging};
 ghost use Rattle.pcm_base.specs.model.Group.{mark, put_stream, stream_of};
-ghost use Rattle.pcm_base.specs.model.Program.{Answer, making, updated_or_epipe};
-ghost use Rattle.pcm_base.specs.model.Stream.{Stream, Member as ModelMember};
+ghost use Rattle.pcm_base.specs.model.Program.{Answer, making};
+ghost use Rattle.pcm_base.specs.model.Stream.{Member as ModelMember};
 ghost use Rattle.pcm_base.specs.model.Transfer.{sleeping};
 ghost use Rattle.pcm_base.specs.model.Words.{is_closed, is_paused as is_paused_in, is_running as is_running_in, is_suspended};
 ghost use Rattle.sleepers.specs.Clients.{has_client};
 ghost use Rattle.pcm_stream.specs.Members.{all_fixed, members_of, numbers_of};
 ghost use Rattle.pcm_stream.specs.MembersStand.{AllStandFor, MemberStandsFor, TaskFits};
 ghost use Rattle.pcm_stream.specs.StandsFor.{faults_of, tells_plan};
-ghost use Rattle.pcm_group.specs.Built.{is_act_call, is_built_call, is_own_call, is_waiting_call, own_frames};
+ghost use Rattle.pcm_group.specs.Built.{is_act_call, is_own_call, is_waiting_call, own_frames};
 ghost use Rattle.pcm_group.specs.Bytes.{HasLength, bytes_left};
 ghost use Rattle.pcm_group.specs.Carried.{IsCarried, IsCarriedBy};
 ghost use Rattle.pcm_group.specs.Ended.{IsAt, IsEnded, IsEndedBy, IsOwnEnd, RunsTo};
 ghost use Rattle.pcm_group.specs.Faults.{KeepsCards};
-ghost use Rattle.pcm_group.specs.Lent.{IsLent, Loads, is_lent_call, is_reading};
-ghost use Rattle.pcm_group.specs.Turn.{caller, is_card_event, may_want_memory};
-ghost use Rattle.pcm_group.specs.Waiting.{calls_of, is_free};
+ghost use Rattle.pcm_group.specs.Lent.{Loads, is_lent_call, is_reading};
+ghost use Rattle.pcm_group.specs.Turn.{caller, is_card_event, is_group_call, may_want_memory};
+ghost use Rattle.pcm_group.specs.Waiting.{calls_of, is_free, is_free_for};
 
 use crate::acts::{act_alone, make, refresh};
+use crate::go::go;
 use crate::mapped::{lent_event, map, unmap};
 use crate::own;
 use crate::pointers::{forward, rewind, sync_ptr};
@@ -501,7 +502,7 @@ fn waiting_event<C: Card>(
     requires call { is_waiting_call call ≡ true }
     requires place { place < length (members_of members.old) }
     requires client { client.0 ≤ 15 }
-    requires free { is_free client (calls_of (members_of members.old)) ≡ true }
+    requires free { is_free_for call place client (calls_of (members_of members.old)) ≡ true }
     requires none { acts.old ≡ [] }
     ensures done { (linked : Bool) (k : SubId) (tells : List Bool) (xs : List ModelMember) → IsAt (members_of members.old) place k tells xs → HasLength call io.old (stream_of k xs)
         → IsEndedBy client tells (event_of call client linked io.old (stream_of k xs)) k xs acts.old acts.new result.reply result.first result.moved (members_of members.new) }
@@ -515,6 +516,7 @@ fn waiting_event<C: Card>(
         Call::Drain(mode) => said(drain(members, place, client, mode, acts)),
         Call::Write(layout, mode) => write(members, place, client, layout, mode, io, acts),
         Call::Read(layout, mode, n) => read(members, place, client, layout, mode, n, io, acts),
+        Call::Go => go(members, place, client, io, acts),
         _ => unreachable!(),
     }
 }
@@ -523,7 +525,10 @@ fn waiting_event<C: Card>(
 fn is_waiting(call: Call) -> bool
     ensures { result ≡ is_waiting_call call }
 {
-    matches!(call, Call::Drain(_) | Call::Write(..) | Call::Read(..))
+    matches!(
+        call,
+        Call::Drain(_) | Call::Write(..) | Call::Read(..) | Call::Go
+    )
 }
 
 // A call that looks at the bytes that it is lent, and makes no act.
@@ -542,8 +547,7 @@ fn bytes_event<C: Card>(
 ) -> Carried
     requires call { is_lent_call call ≡ true }
     requires place { place < length (members_of members.old) }
-    requires lent { (m : _) → slice_get (members_of members.old) place ≡ Some m → IsLent call m.stream io.old }
-    ensures done { (c : ClientIdOf) (linked : Bool) (k : SubId) (tells : List Bool) (xs : List ModelMember) (acts : List ActedOf) → IsAt (members_of members.old) place k tells xs → result.reply ≢ Memory
+    ensures done { (c : ClientIdOf) (linked : Bool) (k : SubId) (tells : List Bool) (xs : List ModelMember) (acts : List ActedOf) → IsAt (members_of members.old) place k tells xs → HasLength call io.old (stream_of k xs) → result.reply ≢ Memory
         → IsCarried call tells (event_of call c linked io.old (stream_of k xs)) k xs acts acts result.reply result.first result.moved (members_of members.new) }
     ensures loaded { (k : SubId) (tells : List Bool) (xs : List ModelMember) → IsAt (members_of members.old) place k tells xs → Loads call (stream_of k xs) result.reply io.old io.new }
     ensures bytes { is_reading call ≡ false → io.new ≡ io.old }
@@ -566,12 +570,11 @@ fn open_event<C: Card>(
     io: &mut [u8],
     acts: &mut Acts,
 ) -> Carried
-    requires built { is_built_call event.now.call ≡ true }
+    requires call { is_group_call event.now.call ≡ true }
     requires place { place < length (members_of members.old) }
     requires caller { is_card_event event.now.call ≡ is_none event.now.client }
     requires client { ForSome event.now.client (λ c. c.0 ≤ 15) }
-    requires free { ForSome event.now.client (λ c. All (λ m. has_client c m.sleepers ≡ false) (members_of members.old)) }
-    requires lent { (m : _) → slice_get (members_of members.old) place ≡ Some m → IsLent event.now.call m.stream io.old }
+    requires free { ForSome event.now.client (λ c. is_free_for event.now.call place c (calls_of (members_of members.old)) ≡ true) }
     requires none { acts.old ≡ [] }
     ensures done { (k : SubId) (tells : List Bool) (xs : List ModelMember) → IsAt (members_of members.old) place k tells xs → HasLength event.now.call io.old (stream_of k xs) → result.reply ≢ Memory
         → IsCarriedBy event.now.call (caller event.now) tells (event_of event.now.call (caller event.now) (nat_lt 1 (length xs)) io.old (stream_of k xs)) k xs acts.new result.reply result.first result.moved (members_of members.new) }
@@ -608,12 +611,11 @@ pub(crate) fn event<C: Card>(
     io: &mut [u8],
     acts: &mut Acts,
 ) -> Carried
-    requires built { is_built_call event.now.call ≡ true }
+    requires call { is_group_call event.now.call ≡ true }
     requires place { place < length (members_of members.old) }
     requires caller { is_card_event event.now.call ≡ is_none event.now.client }
     requires client { ForSome event.now.client (λ c. c.0 ≤ 15) }
-    requires free { ForSome event.now.client (λ c. All (λ m. has_client c m.sleepers ≡ false) (members_of members.old)) }
-    requires lent { (m : _) → slice_get (members_of members.old) place ≡ Some m → IsLent event.now.call m.stream io.old }
+    requires free { ForSome event.now.client (λ c. is_free_for event.now.call place c (calls_of (members_of members.old)) ≡ true) }
     requires none { acts.old ≡ [] }
     ensures done { (k : SubId) (tells : List Bool) (xs : List ModelMember) → IsAt (members_of members.old) place k tells xs → HasLength event.now.call io.old (stream_of k xs) → result.reply ≢ Memory
         → IsCarriedBy event.now.call (caller event.now) tells (program event.now.call (caller event.now) (nat_lt 1 (length xs)) io.old (stream_of k xs)) k xs acts.new result.reply result.first result.moved (members_of members.new) }

@@ -1,13 +1,12 @@
 // A group, and one step of it.
-ghost use Rattle.std.specs.Prelude.{◌≡◌, ◌≢◌, ◌≤◌, ◌<◌, ℕ, Bool, List, All, true, false, [], length, IfSome, Some, slice_get};
+ghost use Rattle.std.specs.Prelude.{◌≡◌, ◌≢◌, ◌≤◌, ◌<◌, ℕ, List, true, false, length, IfSome, Some, slice_get};
 ghost use Rattle.std.specs.Option.{ForSome, is_none, option_copied, option_map};
-ghost use Rattle.pcm_base.specs.declared.ids.SubId.{SubId as SubIdOf};
 ghost use Rattle.pcm_base.specs.declared.reply.Reply.TheVariants.{Memory};
 ghost use Rattle.pcm_base.specs.model.Events.{page as page_of};
 ghost use Rattle.pcm_base.specs.model.Group.{group_step, stream_of};
 ghost use Rattle.pcm_base.specs.model.Replay.{is_member};
-ghost use Rattle.pcm_base.specs.model.Sleep.{group_drains, mask_of, wake, woken};
-ghost use Rattle.pcm_base.specs.model.Stream.{Stream, Member as ModelMember};
+ghost use Rattle.pcm_base.specs.model.Sleep.{mask_of, wake, woken};
+ghost use Rattle.pcm_base.specs.model.Stream.{Member as ModelMember};
 ghost use Rattle.pcm_stream.specs.Members.{all_differ, members_of, numbers_of};
 ghost use Rattle.pcm_stream.specs.MembersStand.{AllStandFor};
 ghost use Rattle.pcm_stream.specs.StandsFor.{shape_in};
@@ -45,18 +44,18 @@ fn place_of<C: Card>(members: &Members<C>, sub: SubId) -> usize
 }
 
 impl<C: Card> Group<C> {
-    ghost use Rattle.sleepers.specs.Clients.{has_client};
     ghost use Rattle.pcm_base.specs.Shape.{IsSoundShape};
     ghost use Rattle.pcm_base.specs.model.Allowed.{shape_of};
     ghost use Rattle.pcm_stream.specs.Members.{all_faults};
     ghost use Rattle.group_trigger.specs.Votes.{all_tell};
-    ghost use Rattle.pcm_group.specs.Built.{is_built_call, is_waiting_call};
+    ghost use Rattle.pcm_group.specs.Built.{is_waiting_call};
     ghost use Rattle.pcm_group.specs.Bytes.{HasLength, bytes_left};
     ghost use Rattle.pcm_group.specs.Faults.{FaultsOver};
     ghost use Rattle.pcm_group.specs.Inside.{members_in};
-    ghost use Rattle.pcm_group.specs.Lent.{IsLent, Loads, is_lent_call, is_reading};
+    ghost use Rattle.pcm_group.specs.Lent.{Loads, is_lent_call, is_reading};
     ghost use Rattle.pcm_group.specs.Stepped.{IsIdle, IsStep, IsTurn, all_true};
     ghost use Rattle.pcm_group.specs.Turn.{caller, is_card_event, is_group_call, may_want_memory};
+    ghost use Rattle.pcm_group.specs.Waiting.{IsFreeFor};
 
     /// The group of these members, whose numbers are distinct, and the mask of the clients that its first wake check marks
     /// awake: client i is bit i. No memory.
@@ -73,16 +72,15 @@ impl<C: Card> Group<C> {
     }
 
     /// One event of the group, with the bytes of its call: the step of the model, for each list of members that these stand
-    /// for. A card that tells no fault plan may fail where it is asked, and its count of faults rises then. A Load is lent the
-    /// bytes of its frames, and the frames that stand in the buffer are then in all of them; no other event changes the bytes.
-    /// `Memory` leaves all as it was.
+    /// for. A card that tells no fault plan may fail where it is asked, and its count of faults rises then. The client has no
+    /// call in progress here, but the one that a Go names. A load leaves the frames that stand in the buffer in all of its
+    /// bytes, a read what it moved at its place among them; no other event changes the bytes. `Memory` leaves all as it was.
     pub fn step(&mut self, event: &Event, io: &mut [u8]) -> Turn
-        requires built { is_built_call event.now.call ≡ true }
+        requires call { is_group_call event.now.call ≡ true }
         requires member { is_member event.now.sub (numbers_of (members_in self.old)) ≡ true }
         requires caller { is_card_event event.now.call ≡ is_none event.now.client }
         requires client { ForSome event.now.client (λ c. c.0 ≤ 15) }
-        requires free { ForSome event.now.client (λ c. All (λ m. has_client c m.sleepers ≡ false) (members_in self.old)) }
-        requires lent { (i : ℕ) (m : _) → slice_get (members_in self.old) i ≡ Some m → m.sub ≡ event.now.sub → IsLent event.now.call m.stream io.old }
+        requires free { ForSome event.now.client (λ c. IsFreeFor event.now.call event.now.sub c (members_in self.old)) }
         requires length { (xs : List ModelMember) → AllStandFor (members_in self.old) xs → HasLength event.now.call io.old (stream_of event.now.sub xs) }
         ensures step { (xs : List ModelMember) → AllStandFor (members_in self.old) xs → result.reply ≢ Memory
             → IsStep (all_tell (members_in self.old)) event.now.call (caller event.now) event.now.sub io.old io.new xs result (members_in self.new) }

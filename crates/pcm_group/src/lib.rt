@@ -7,6 +7,7 @@
 
 mod acts;
 mod events;
+mod go;
 mod group;
 mod mapped;
 mod own;

@@ -1,6 +1,6 @@
 // The events of mapped frames (`snd_pcm_mmap`; that stores and loads are calls is this project's own), and the frames that a
 // card is handed to give.
-ghost use Rattle.std.specs.Prelude.{◌≡◌, ◌≢◌, ◌+◌, ◌≤◌, ℕ, Bool, List, true, false, [], IsOk, IsSome, IfSome, MatchResult, None, Some};
+ghost use Rattle.std.specs.Prelude.{◌≡◌, ◌≢◌, ◌+◌, ◌*◌, ◌≤◌, nat_eq, length, ℕ, Bool, List, true, false, [], IsOk, IsSome, IfSome, MatchResult, None, Some};
 ghost use Rattle.std.specs.Option.{ForSome};
 ghost use Rattle.pcm_base.specs.Shape.{AreFrames, IsSoundShape};
 ghost use Rattle.pcm_base.specs.declared.call.Call.TheVariants as call;
@@ -11,13 +11,15 @@ ghost use Rattle.pcm_base.specs.model.Stream.{Stream};
 ghost use Rattle.pcm_stream.specs.Mappings.{mappings_in};
 ghost use Rattle.pcm_stream.specs.StandsFor.{IsShapeOf, StandsFor, faults_of, shape_in, tells_plan};
 ghost use Rattle.mmap_pages.specs.Mapped.{load_refusal};
+ghost use Rattle.pcm_group.specs.Bytes.{HasLength};
 ghost use Rattle.pcm_group.specs.Carried.{IsOwnCarried};
 ghost use Rattle.pcm_group.specs.Ended.{IsOwnEnd};
-ghost use Rattle.pcm_group.specs.Lent.{IsLent, Loads, frames_given, give_refusal, is_lent_call, is_reading};
+ghost use Rattle.pcm_group.specs.Lent.{Loads, frames_given, give_refusal, is_lent_call, is_reading};
 ghost use Rattle.pcm_group.specs.Turn.{may_want_memory};
 
 use crate::acts::answer;
 use crate::transfer::{Carried, said};
+use crate::write_read::is_length;
 use mmap_pages::{load_frames, map_sub, store_frames, unmap_sub};
 use pcm_base::{Call, Card, Dir, Errno, Reply};
 use pcm_stream::Substream;
@@ -91,24 +93,38 @@ fn loadable<C: Card>(stream: &Substream<C>, offset: u64, count: u64) -> Result<(
     Ok(())
 }
 
-/// Loads the frames that stand in the mapped buffer from an offset on into the bytes that are lent.
+// Whether the bytes are those of so many frames.
+fn holds<C: Card>(stream: &Substream<C>, count: u64, io: &[u8]) -> bool
+    ensures length { result ≡ true → ForSome (shape_in stream.now) (λ shape. length io.now ≡ count * shape.frame_bytes) }
+    ensures model { (s : Stream) → StandsFor stream.now s → IsSome (shape_in stream.now) → result ≡ nat_eq (length io.now) (count * s.setup.frame_bytes) }
+{
+    match stream.shape() {
+        Some(shape) => is_length(io.len() as u64, shape.frame_bytes, 0, count),
+        None => false,
+    }
+}
+
+/// Loads the frames that stand in the mapped buffer from an offset on into the bytes that are lent. Bytes of another length
+/// than the frames', which no caller hands in, are refused.
 pub(crate) fn load<C: Card>(
     stream: &Substream<C>,
     offset: u64,
     count: u64,
     io: &mut [u8],
 ) -> Carried
-    requires lent { IsLent (call.Load offset count) stream.now io.old }
-    ensures done { (c : ClientId) (linked : Bool) (bytes : List ℕ) (s : Stream) → StandsFor stream.now s
+    ensures done { (c : ClientId) (linked : Bool) (bytes : List ℕ) (s : Stream) → StandsFor stream.now s → HasLength (call.Load offset count) io.old s
         → IsOwnEnd s (event_of (call.Load offset count) c linked bytes s) result.reply result.first result.moved stream.now }
     ensures loaded { (s : Stream) → StandsFor stream.now s → Loads (call.Load offset count) s result.reply io.old io.new }
     ensures told { result.reply ≢ Memory }
     ensures awake { result.reply ≢ Asleep }
 {
-    match loadable(stream, offset, count) {
-        Ok(()) => moved_all(load_frames(stream, offset, io)),
-        Err(e) => moved_all(Err(e)),
+    if let Err(e) = loadable(stream, offset, count) {
+        return moved_all(Err(e));
     }
+    if !holds(stream, count, io) {
+        return moved_all(Err(Errno::Einval));
+    }
+    moved_all(load_frames(stream, offset, io))
 }
 
 // Whether the card may be handed these frames.
@@ -148,8 +164,7 @@ pub(crate) fn give<C: Card>(stream: &mut Substream<C>, frames: &[u8]) -> Reply
 /// moves.
 pub(crate) fn lent_event<C: Card>(stream: &mut Substream<C>, call: Call, io: &mut [u8]) -> Carried
     requires call { is_lent_call call ≡ true }
-    requires lent { IsLent call stream.old io.old }
-    ensures done { (c : ClientId) (linked : Bool) (s : Stream) → StandsFor stream.old s → result.reply ≢ Memory
+    ensures done { (c : ClientId) (linked : Bool) (s : Stream) → StandsFor stream.old s → HasLength call io.old s → result.reply ≢ Memory
         → IsOwnCarried call s (event_of call c linked io.old s) result.reply result.first result.moved stream.new }
     ensures loaded { (s : Stream) → StandsFor stream.old s → Loads call s result.reply io.old io.new }
     ensures bytes { is_reading call ≡ false → io.new ≡ io.old }

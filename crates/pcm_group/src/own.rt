@@ -1,5 +1,5 @@
 // What the events do to a substream that make no act over its group (the ioctls of `pcm_native.c`).
-ghost use Rattle.std.specs.Prelude.{◌≡◌, ◌≢◌, ◌<◌, ◌^◌, ◌-ℤ◌, ◌&&◌, ◌||◌, nat_lt, pos, Bool, true, false, List, [], length, MatchResult};
+ghost use Rattle.std.specs.Prelude.{◌≡◌, ◌≢◌, ◌<◌, ◌^◌, ◌-ℤ◌, ◌||◌, pos, Bool, true, [], length};
 ghost use Rattle.pcm_base.specs.declared.call.Call.TheVariants as call;
 ghost use Rattle.pcm_base.specs.declared.ids.ClientId.{ClientId};
 ghost use Rattle.pcm_base.specs.declared.reply.Reply.TheVariants.{Asleep, Memory};

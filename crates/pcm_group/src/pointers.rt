@@ -1,5 +1,5 @@
 // The events that move the application pointer (`snd_pcm_rewind`, `snd_pcm_forward` and `snd_pcm_sync_ptr`).
-ghost use Rattle.std.specs.Prelude.{◌≡◌, ◌≢◌, ◌<◌, ◌≤◌, ℕ, Bool, List, true, [], length};
+ghost use Rattle.std.specs.Prelude.{◌≡◌, ◌≢◌, ◌<◌, Bool, List, true, [], length};
 ghost use Rattle.pcm_base.specs.declared.call.Call.TheVariants as call;
 ghost use Rattle.pcm_base.specs.declared.ids.ClientId.{ClientId};
 ghost use Rattle.pcm_base.specs.declared.ids.SubId.{SubId};

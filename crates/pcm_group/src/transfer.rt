@@ -1,5 +1,5 @@
 // The turns of a transfer on one member (the loop of `__snd_pcm_lib_xfer` in `pcm_lib.c`).
-ghost use Rattle.std.specs.Prelude.{◌≡◌, ◌≢◌, ◌+◌, ◌-◌, ◌≤◌, ◌<◌, ℕ, Bool, IsSome, List, [], drop, length, nat_eq, true, if◌then◌else◌};
+ghost use Rattle.std.specs.Prelude.{◌≡◌, ◌≢◌, ◌+◌, ◌-◌, ◌≤◌, ◌<◌, Bool, IsSome, List, [], drop, length, nat_eq, true, if◌then◌else◌};
 ghost use Rattle.std.specs.Option.{ForSome};
 ghost use Rattle.pcm_base.specs.declared.act.Act.TheVariants as act;
 ghost use Rattle.pcm_base.specs.declared.ids.ClientId.{ClientId as ClientIdOf};

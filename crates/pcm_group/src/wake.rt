@@ -1,7 +1,7 @@
 // The wake check at the end of a step (`snd_pcm_update_state`, which wakes the wait loop of `pcm_lib.c`; that one check at the
 // end of a step wakes them is this project's own).
-ghost use Rattle.std.specs.Prelude.{◌≡◌, ◌<◌, ℕ, Bool, List, true, length};
-ghost use Rattle.pcm_base.specs.model.Acts.{drains as drains_of, subs};
+ghost use Rattle.std.specs.Prelude.{◌≡◌, ◌<◌, List, true};
+ghost use Rattle.pcm_base.specs.model.Acts.{drains as drains_of};
 ghost use Rattle.pcm_base.specs.model.Sleep.{group_drains as group_drains_of, mask_of, wake, woken};
 ghost use Rattle.pcm_base.specs.model.Stream.{Stream, Member as ModelMember};
 ghost use Rattle.pcm_stream.specs.Members.{all_faults, members_of, numbers_of};

@@ -5,13 +5,12 @@ ghost use Rattle.std.specs.Option.{is_some};
 ghost use Rattle.pcm_base.specs.declared.config.Config.{Config as ConfigOf};
 ghost use Rattle.pcm_base.specs.declared.ids.SubId.{SubId};
 ghost use Rattle.pcm_base.specs.declared.reply.Reply.TheVariants.{Memory};
-ghost use Rattle.pcm_base.specs.model.Frame.{Frame};
 ghost use Rattle.pcm_base.specs.model.Group.{stream_of};
 ghost use Rattle.pcm_base.specs.model.Program.{Answer};
 ghost use Rattle.pcm_base.specs.model.Stream.{Stream, Member as ModelMember};
 ghost use Rattle.pcm_base.specs.model.Transfer.{beq, fits as fits_in, frames_by, misfit, read as read_of, start_reading as reading_from, write as write_of};
 ghost use Rattle.pcm_base.specs.model.Words.{is_playback, is_prepared};
-ghost use Rattle.pcm_stream.specs.Members.{all_fixed, members_of, numbers_of};
+ghost use Rattle.pcm_stream.specs.Members.{members_of, numbers_of};
 ghost use Rattle.pcm_stream.specs.StandsFor.{StandsFor};
 ghost use Rattle.pcm_group.specs.Ended.{IsAt, IsEndedBy, RunsTo};
 ghost use Rattle.pcm_group.specs.Faults.{KeepsCards};
@@ -89,8 +88,8 @@ fn size_of(io: &[u8]) -> u64
     io.len() as u64
 }
 
-// So many bytes are all frames of a call, of which some have moved and some rest.
-fn is_length(size: u64, frame: u64, moved: u64, rest: u64) -> bool
+/// So many bytes are all frames of a call, of which some have moved and some rest.
+pub(crate) fn is_length(size: u64, frame: u64, moved: u64, rest: u64) -> bool
     requires frame { 1 ≤ frame }
     ensures { result ≡ nat_eq size ((moved + rest) * frame) }
 {

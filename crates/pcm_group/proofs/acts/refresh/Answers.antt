@@ -1,20 +1,13 @@
-use Rattle.std.proofs.Common.{◌≡◌, ◌≢◌, ◌⊎◌, inl, inr, ◌+◌, ◌≤◌, ℕ, Bool, true, false, cond, List, [], Some, None, length, set, refl, sym, ◌∙◌, ap, subst, arith}
+use Rattle.std.proofs.Common.{◌≡◌, ◌≢◌, ◌⊎◌, inl, inr, set, refl, ◌∙◌, arith}
 use Rattle.pcm_base.specs.declared.act.Updated.{Updated}
 use Rattle.pcm_base.specs.declared.act.Updated.TheVariants as updated
-use Rattle.pcm_base.specs.declared.call.CallKind.TheVariants as kind
-use Rattle.pcm_base.specs.declared.reply.Reply.TheVariants as reply
-use Rattle.pcm_base.specs.declared.state.Errno.TheVariants as errno
-use Rattle.pcm_base.specs.model.Acts.{table}
 use Rattle.pcm_base.specs.model.Group.{put_stream, stream_of}
-use Rattle.pcm_base.specs.model.Program.{says, fails, updated_or_epipe}
-use Rattle.pcm_base.specs.model.Stream.{Stream}
 use Rattle.pcm_base.specs.model.Update.{update}
 use Rattle.pcm_stream.specs.Members.{fixed_of, members_of}
-use Rattle.pcm_stream.specs.StandsFor.{StandsFor}
-use Rattle.group_trigger.proofs.ListLemmas.{fixed-same, map-set}
+use Rattle.group_trigger.proofs.ListLemmas.{fixed-same}
 use Rattle.pcm_group.proofs.EndedLemmas.{IsUpdated-stopped, IsUpdated-unstopped, keeps-update, stands-there}
 use Rattle.pcm_group.proofs.PlaceLemmas.{IsAt-put}
-use Rattle.pcm_group.proofs.FaultLemmas.{KeepsCards-set, KeepsCards-then}
+use Rattle.pcm_group.proofs.FaultLemmas.{KeepsCards-set, KeepsCards-then, map-at}
 use Rattle.pcm_group.proofs.acts.refresh.Goals as goal
 
 quiet : (u : Updated) → (u ≡ updated.Nothing) ⊎ (u ≡ updated.DrainDone) → u ≢ updated.StopXrun
@@ -29,7 +22,7 @@ returns-in-Nothing g c = record {
       (c.update-found.ensures.found (stream_of k xs) sh) (quiet c.update-found.result c.in-Nothing.is) (c.update-found.ensures.model (stream_of k xs) sh) c.update-found.ensures.tells;
   count = omega arith;
   quiet = λ _. refl;
-  fixed = map-set fixed_of (members_of c.args.members.now) c.args.place c.at_mut.result.now (record c.at_mut.result.now { stream = c.update-found.new.self }) c.at_mut.ensures.value
+  fixed = map-at fixed_of (members_of c.args.members.now) c.args.place c.at_mut.result.now (record c.at_mut.result.now { stream = c.update-found.new.self }) c.at_mut.ensures.value
       (fixed-same c.at_mut.result.now c.update-found.new.self c.update-found.ensures.shape c.update-found.ensures.tells);
   cards = KeepsCards-set c.args.acts.now (members_of c.args.members.now) c.args.place c.at_mut.result.now (record c.at_mut.result.now { stream = c.update-found.new.self }) c.at_mut.ensures.value
       c.update-found.ensures.tells c.update-found.ensures.faults;
@@ -48,7 +41,7 @@ returns-in-StopXrun-clause-updated g c = λ k tells xs h.
 pub returns-in-StopXrun-clause-fixed : goal.returns-in-StopXrun-clause-fixed
 returns-in-StopXrun-clause-fixed g c =
     c.make.ensures.fixed
-    ∙ map-set fixed_of (members_of c.args.members.now) c.args.place c.at_mut.result.now (record c.at_mut.result.now { stream = c.update-found.new.self }) c.at_mut.ensures.value
+    ∙ map-at fixed_of (members_of c.args.members.now) c.args.place c.at_mut.result.now (record c.at_mut.result.now { stream = c.update-found.new.self }) c.at_mut.ensures.value
     (fixed-same c.at_mut.result.now c.update-found.new.self c.update-found.ensures.shape c.update-found.ensures.tells)
 
 pub returns-in-StopXrun-clause-cards : goal.returns-in-StopXrun-clause-cards

@@ -1,4 +1,4 @@
-use Rattle.std.proofs.Common.{◌≡◌, ℕ, List, [], set, refl}
+use Rattle.std.proofs.Common.{refl}
 use Rattle.pcm_base.specs.model.Events.{event}
 use Rattle.pcm_base.specs.model.Group.{stream_of}
 use Rattle.pcm_stream.specs.declared.members.Member.{Member}
@@ -8,16 +8,13 @@ use Rattle.pcm_group.proofs.FaultLemmas.{KeepsCards-set, map-at}
 use Rattle.pcm_group.proofs.PlaceLemmas.{set_stands}
 use Rattle.pcm_group.proofs.events.bytes_event.Goals as goal
 
-pub lent_event-requires-clause-lent : goal.lent_event-requires-clause-lent
-lent_event-requires-clause-lent g c = c.requires.lent c.at_mut.result.now c.at_mut.ensures.value
-
 pub returns-clause-done : goal.returns-clause-done
-returns-clause-done g c = λ client linked k tells xs acts h n.
+returns-clause-done g c = λ client linked k tells xs acts h long n.
     let ms = members_of c.args.members.now in
     let m = c.at_mut.result.now in
     let s = stream_of k xs in
     let r = c.lent_event.result in
-    let own = c.lent_event.ensures.done client linked s (stands-there ms c.args.place m k tells xs h c.at_mut.ensures.value) n in
+    let own = c.lent_event.ensures.done client linked s (stands-there ms c.args.place m k tells xs h c.at_mut.ensures.value) long n in
     record {
       frames = own.frames;
       moved = own.moved;

@@ -1,31 +1,33 @@
-use Rattle.std.proofs.Common.{◌≡◌, ◌≢◌, ℕ, nat_lt, Bool, true, false, cond, not, ◌||◌, ◌&&◌, List, [], ◌∷◌, length, refl, sym, ◌∙◌, ap, subst}
+use Rattle.std.proofs.Common.{◌≡◌, ℕ, nat_lt, Bool, true, false, not, ◌&&◌, List, [], length, Option, Some, refl, sym, ◌∙◌, ap, subst}
 use Rattle.pcm_base.specs.declared.call.Call.{Call}
-use Rattle.pcm_base.specs.declared.call.Call.TheVariants as call
 use Rattle.pcm_base.specs.declared.ids.ClientId.{ClientId}
+use Rattle.pcm_base.specs.declared.ids.SubId.{SubId}
+use Rattle.pcm_base.specs.declared.card.Card.{Ghosts}
+use Rattle.pcm_stream.specs.declared.members.Member.{Member}
+use Rattle.std.specs.List.{slice_get}
+use Rattle.std.specs.Option.{ForSome}
 use Rattle.pcm_base.specs.declared.reply.Reply.{Reply}
 use Rattle.pcm_base.specs.declared.reply.Reply.TheVariants as reply
 use Rattle.pcm_base.specs.declared.state.Errno.TheVariants as errno
 use Rattle.pcm_base.specs.declared.state.State.{State}
 use Rattle.pcm_base.specs.declared.votes.Acted.{Acted}
-use Rattle.pcm_base.specs.model.Events.{drain, event, opens, program}
+use Rattle.pcm_base.specs.model.Events.{event, opens, program}
 use Rattle.pcm_base.specs.model.Group.{stream_of}
-use Rattle.pcm_base.specs.model.Program.{Answer, Program, fails}
+use Rattle.pcm_base.specs.model.Program.{Program, fails}
 use Rattle.pcm_base.specs.model.Stream.{Stream, Member as ModelMember}
-use Rattle.pcm_base.specs.model.Transfer.{read as reading, write as writing}
 use Rattle.pcm_base.specs.model.Words.{is_closed}
 use Rattle.pcm_stream.specs.Members.{members_of}
-use Rattle.pcm_group.specs.Built.{is_act_call, is_own_call, is_waiting_call, own_frames}
-use Rattle.pcm_group.specs.Bytes.{HasLength, bytes_left}
-use Rattle.pcm_group.specs.Carried.{IsCarried, IsCarriedBy}
-use Rattle.pcm_group.specs.Lent.{Loads, is_lent_call, is_reading}
-use Rattle.pcm_group.specs.Ended.{IsEnded, IsEndedBy, RunsTo}
-use Rattle.pcm_group.specs.Turn.{caller, caller_of, frames_moved, is_card_event}
-use Rattle.pcm_group.specs.Waiting.{calls_of, is_free}
-use Rattle.pcm_group.proofs.AsleepLemmas.{IsEndedBy-at, IsEndedBy-of}
+use Rattle.pcm_group.specs.Lent.{Loads}
+use Rattle.pcm_group.specs.Ended.{IsAt, IsEndedBy, RunsTo}
+use Rattle.pcm_group.specs.Turn.{caller, caller_of}
+use Rattle.pcm_group.specs.Waiting.{calls_of, is_free, is_free_for}
+use Rattle.pcm_group.proofs.GoingLemmas.{closed_free}
+use Rattle.pcm_group.proofs.PlaceLemmas.{IsThere, there}
+use Rattle.pcm_group.proofs.AsleepLemmas.{IsEndedBy-of}
 use Rattle.pcm_group.proofs.CarryLemmas.{IsEndedBy-told}
-use Rattle.pcm_group.proofs.EndedLemmas.{IsEnded-at, IsEnded-says, else-is, stands-there, then-is}
-use Rattle.pcm_group.proofs.EventLemmas.{IsCarriedBy-at, caller_free, client_free, io_unused, none_are_moved, quiet_left, short_bytes, short_call, short_moved, waiting_is_called, waiting_moves, waiting_unlent, wanting_reads_none}
-use Rattle.pcm_group.proofs.CarriedLemmas.{refusal_leaves, unlent_leaves}
+use Rattle.pcm_group.proofs.EndedLemmas.{IsEnded-says, else-is, stands-there, then-is}
+use Rattle.pcm_group.proofs.EventLemmas.{IsCarriedBy-at, caller_free_there, none_are_moved, quiet_left}
+use Rattle.pcm_group.proofs.CarriedLemmas.{refusal_leaves}
 use Rattle.pcm_group.proofs.FaultLemmas.{KeepsCards-same}
 use Rattle.pcm_group.proofs.events.event.Goals as goal
 
@@ -38,6 +40,18 @@ refuses e cl linked io s h = then-is (shut e s) (fails errno.Enxio s) (event e c
 
 goes_on : (e : Call) (cl : ClientId) (linked : Bool) (io : List ℕ) (s : Stream) → shut e s ≡ false → program e cl linked io s ≡ event e cl linked io s
 goes_on e cl linked io s h = else-is (shut e s) (fails errno.Enxio s) (event e cl linked io s) h
+
+-- nobody has a call on it
+shut_free : {C : Type 0} {g : Ghosts C} (e : Call) (i : ℕ) (o : Option ClientId) (ms : List (Member C g)) (m : Member C g) (k : SubId) (tells : List Bool) (xs : List ModelMember) → IsAt ms i k tells xs → slice_get ms i ≡ Some m → shut e (stream_of k xs) ≡ true
+    → ForSome o (λ c. is_free_for e i c (calls_of ms) ≡ true) → is_free (caller_of o) (calls_of ms) ≡ true
+shut_free e i o ms m k tells xs h at test free =
+    let r : IsThere m k xs = there ms i m k xs h.stands h.distinct h.number at in
+    let closed : is_closed r.member.stream.state ≡ true = ap (λ (s : Stream). is_closed s.state) r.stream ∙ first (is_closed (stream_of k xs).state) (not (opens e)) test in
+    caller_free_there e i o ms m xs h.stands at (λ c. closed_free c m r.member r.stands closed) free
+  where
+    first : (a b : Bool) → (a && b) ≡ true → a ≡ true
+    first true b q = refl
+    first false b q = absurd (let no : ⊥ = cc in no)
 
 pub returns-then-is_shut-clause-done : goal.returns-then-is_shut-clause-done
 returns-then-is_shut-clause-done g c = λ k tells xs h long n.
@@ -52,7 +66,7 @@ returns-then-is_shut-clause-done g c = λ k tells xs h long n.
     let e : Reply = reply.Err errno.Enxio in
     let q = c.said.result in
     let ended : IsEndedBy (caller ev) tells p k xs [] [] q.reply q.first 0 ms = IsEndedBy-told (caller ev) tells p (fails errno.Enxio s) k xs [] [] q.reply e q.first 0 0 0 ms (refuses ev.call (caller ev) linked io s test) c.said.ensures.reply c.said.ensures.first refl
-    (IsEndedBy-of (caller ev) tells (fails errno.Enxio s) k xs [] [] e 0 0 ms (λ a. let no : ⊥ = cc in no) (caller_free ev.client ms xs h.stands c.requires.free) (IsEnded-says tells k xs [] e ms c.args.place h)) in
+    (IsEndedBy-of (caller ev) tells (fails errno.Enxio s) k xs [] [] e 0 0 ms (λ a. let no : ⊥ = cc in no) (shut_free ev.call c.args.place ev.client ms c.at.result.now k tells xs h c.at.ensures test c.requires.free) (IsEnded-says tells k xs [] e ms c.args.place h)) in
     record {
       frames = 0;
       ends = subst (λ (l : List Acted). IsEndedBy (caller ev) tells p k xs [] l q.reply q.first 0 ms) (sym c.requires.none) ended;
@@ -71,7 +85,7 @@ returns-then-is_shut-clause-transferred g c = λ k tells xs b ys h long unlent r
     let p = program ev.call (caller ev) linked io s in
     let e : Reply = reply.Err errno.Enxio in
     let ended : IsEndedBy (caller ev) tells p k xs [] [] e 0 0 ms = IsEndedBy-told (caller ev) tells p (fails errno.Enxio s) k xs [] [] e e 0 0 0 0 ms (refuses ev.call (caller ev) linked io s test) refl refl refl
-    (IsEndedBy-of (caller ev) tells (fails errno.Enxio s) k xs [] [] e 0 0 ms (λ a. let no : ⊥ = cc in no) (caller_free ev.client ms xs h.stands c.requires.free) (IsEnded-says tells k xs [] e ms c.args.place h)) in
+    (IsEndedBy-of (caller ev) tells (fails errno.Enxio s) k xs [] [] e 0 0 ms (λ a. let no : ⊥ = cc in no) (shut_free ev.call c.args.place ev.client ms c.at.result.now k tells xs h c.at.ensures test c.requires.free) (IsEnded-says tells k xs [] e ms c.args.place h)) in
     quiet_left (caller ev) tells p k xs [] e 0 ms ev.call (caller ev) s io b ys ended (subst (λ (ds : List Acted). RunsTo tells p k xs ds b ys) c.requires.none runs)
 
 pub returns-clause-done : goal.returns-clause-done
@@ -97,9 +111,6 @@ returns-clause-transferred g c = λ k tells xs b ys h long unlent runs.
     let sh = stands-there ms c.args.place c.at.result.now k tells xs h c.at.ensures in
     let test : shut ev.call s ≡ false = ap (λ (t : State). is_closed t && not (opens ev.call)) (sym (c.state-state.ensures s sh)) ∙ sym c.is_shut.ensures ∙ c.if-is_shut.false in
     c.open_event.ensures.transferred k tells xs b ys h long unlent (subst (λ (p : Program). RunsTo tells p k xs c.open_event.new.acts b ys) (goes_on ev.call (caller ev) linked io s test) runs)
-
-pub open_event-requires-clause-lent : goal.open_event-requires-clause-lent
-open_event-requires-clause-lent g c = c.requires.lent
 
 pub returns-then-is_shut-clause-loaded : goal.returns-then-is_shut-clause-loaded
 returns-then-is_shut-clause-loaded g c = λ k tells xs h.

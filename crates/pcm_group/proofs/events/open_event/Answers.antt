@@ -1,32 +1,26 @@
-use Rattle.std.proofs.Common.{◌≡◌, ◌≢◌, ℕ, nat_lt, Bool, true, false, cond, not, ◌||◌, ◌&&◌, List, [], ◌∷◌, length, refl, sym, ◌∙◌, ap, subst}
+use Rattle.std.proofs.Common.{◌≡◌, ◌≢◌, ℕ, nat_lt, Bool, true, false, List, [], length, refl, sym, ◌∙◌, ap, subst}
 use Rattle.pcm_base.specs.declared.call.Call.{Call}
 use Rattle.pcm_base.specs.declared.call.Call.TheVariants as call
 use Rattle.pcm_base.specs.declared.ids.ClientId.{ClientId}
 use Rattle.pcm_base.specs.declared.reply.Reply.{Reply}
 use Rattle.pcm_base.specs.declared.reply.Reply.TheVariants as reply
-use Rattle.pcm_base.specs.declared.state.Errno.TheVariants as errno
-use Rattle.pcm_base.specs.declared.state.State.{State}
 use Rattle.pcm_base.specs.declared.votes.Acted.{Acted}
-use Rattle.pcm_base.specs.model.Events.{drain, event, opens, program}
+use Rattle.pcm_base.specs.model.Events.{event}
 use Rattle.pcm_base.specs.model.Group.{stream_of}
-use Rattle.pcm_base.specs.model.Program.{Answer, Program, fails}
-use Rattle.pcm_base.specs.model.Stream.{Stream, Member as ModelMember}
-use Rattle.pcm_base.specs.model.Transfer.{read as reading, write as writing}
-use Rattle.pcm_base.specs.model.Words.{is_closed}
+use Rattle.pcm_base.specs.model.Stream.{Stream}
 use Rattle.pcm_stream.specs.Members.{members_of}
-use Rattle.pcm_group.specs.Built.{is_act_call, is_own_call, is_waiting_call, own_frames}
-use Rattle.pcm_group.specs.Bytes.{HasLength, bytes_left}
-use Rattle.pcm_group.specs.Carried.{IsCarried, IsCarriedBy}
-use Rattle.pcm_group.specs.Lent.{Loads, is_lent_call, is_reading}
-use Rattle.pcm_group.specs.Ended.{IsEnded, IsEndedBy, RunsTo}
-use Rattle.pcm_group.specs.Turn.{caller, caller_of, frames_moved, is_card_event}
+use Rattle.pcm_group.specs.Built.{is_waiting_call, own_frames}
+use Rattle.pcm_group.specs.Bytes.{bytes_left}
+use Rattle.pcm_group.specs.Carried.{IsCarriedBy}
+use Rattle.pcm_group.specs.Lent.{Loads, is_lent_call}
+use Rattle.pcm_group.specs.Ended.{IsEndedBy, RunsTo}
+use Rattle.pcm_group.specs.Turn.{caller, caller_of}
 use Rattle.pcm_group.specs.Waiting.{calls_of, is_free}
-use Rattle.pcm_group.proofs.AsleepLemmas.{IsEndedBy-at, IsEndedBy-of}
+use Rattle.pcm_group.proofs.AsleepLemmas.{IsEndedBy-of}
 use Rattle.pcm_group.proofs.CarryLemmas.{IsEndedBy-told}
-use Rattle.pcm_group.proofs.EndedLemmas.{IsEnded-at, IsEnded-says, else-is, stands-there, then-is}
-use Rattle.pcm_group.proofs.EventLemmas.{IsCarriedBy-at, caller_free, client_free, io_unused, none_are_moved, quiet_left, short_bytes, short_call, short_moved, waiting_is_called, waiting_moves, waiting_unlent, wanting_reads_none}
-use Rattle.pcm_group.proofs.CarriedLemmas.{refusal_leaves, unlent_leaves}
-use Rattle.pcm_group.proofs.FaultLemmas.{KeepsCards-same}
+use Rattle.pcm_group.proofs.EndedLemmas.{IsEnded-at}
+use Rattle.pcm_group.proofs.EventLemmas.{caller_free, io_unused, short_bytes, short_call, short_moved, waiting_moves, waiting_unlent, wanting_reads_none}
+use Rattle.pcm_group.proofs.CarriedLemmas.{unlent_leaves}
 use Rattle.pcm_group.proofs.events.open_event.Goals as goal
 
 -- an event that is lent nothing loads nothing
@@ -41,7 +35,7 @@ pub waiting_event-requires-clause-call : goal.waiting_event-requires-clause-call
 waiting_event-requires-clause-call g c = sym c.is_waiting.ensures ∙ c.if-is_waiting.true
 
 pub waiting_event-requires-clause-free : goal.waiting_event-requires-clause-free
-waiting_event-requires-clause-free g c = client_free c.args.event.now.client c.in-Some.client (members_of c.args.members.now) c.in-Some.is c.requires.free
+waiting_event-requires-clause-free g c = c.requires.free c.in-Some.client c.in-Some.is
 
 pub returns-in-Some-clause-done : goal.returns-in-Some-clause-done
 returns-in-Some-clause-done g c = λ k tells xs h long n.
@@ -71,7 +65,7 @@ returns-in-Some-clause-transferred g c = λ k tells xs b ys h long unlent runs.
     ∙ sym (ap (λ (cl : ClientId). bytes_left ev.call cl s b c.args.io.now) who)
 
 pub short_event-requires-clause-call : goal.short_event-requires-clause-call
-short_event-requires-clause-call g c = short_call (is_own_call c.args.event.now.call) (is_act_call c.args.event.now.call) (is_waiting_call c.args.event.now.call) (is_lent_call c.args.event.now.call) c.requires.built (sym c.is_waiting.ensures ∙ c.if-is_waiting.false) (sym c.is_lent.ensures ∙ c.if-is_lent.false)
+short_event-requires-clause-call g c = short_call c.args.event.now.call c.requires.call (sym c.is_waiting.ensures ∙ c.if-is_waiting.false) (sym c.is_lent.ensures ∙ c.if-is_lent.false)
 
 pub returns-else-is_lent-clause-done : goal.returns-else-is_lent-clause-done
 returns-else-is_lent-clause-done g c = λ k tells xs h long n.
@@ -85,10 +79,10 @@ returns-else-is_lent-clause-done g c = λ k tells xs h long n.
     let q = c.said.result in
     let acts = c.short_event.new.acts in
     let frames = own_frames ev.call s in
-    let short = short_call (is_own_call ev.call) (is_act_call ev.call) (is_waiting_call ev.call) (is_lent_call ev.call) c.requires.built (sym c.is_waiting.ensures ∙ c.if-is_waiting.false) (sym c.is_lent.ensures ∙ c.if-is_lent.false) in
+    let short = short_call ev.call c.requires.call (sym c.is_waiting.ensures ∙ c.if-is_waiting.false) (sym c.is_lent.ensures ∙ c.if-is_lent.false) in
     let told : r ≢ reply.Memory = λ e. n (c.said.ensures.reply ∙ e) in
     let same : event ev.call (caller ev) linked io s ≡ event ev.call (caller ev) linked [] s = io_unused ev.call (caller ev) linked io s short in
-    let free : is_free (caller ev) (calls_of ns) ≡ true = ap (is_free (caller ev)) c.short_event.ensures.calls ∙ caller_free ev.client ms xs h.stands c.requires.free in
+    let free : is_free (caller ev) (calls_of ns) ≡ true = ap (is_free (caller ev)) c.short_event.ensures.calls ∙ caller_free ev.call c.args.place ev.client ms xs h.stands (sym c.is_waiting.ensures ∙ c.if-is_waiting.false) c.requires.free in
     let p = event ev.call (caller ev) linked io s in
     let ended : IsEndedBy (caller ev) tells p k xs c.args.acts.now acts r 0 frames ns = IsEndedBy-of (caller ev) tells p k xs c.args.acts.now acts r 0 frames ns c.short_event.ensures.awake free
     (IsEnded-at tells p (event ev.call (caller ev) linked [] s) k xs c.args.acts.now acts r 0 frames ns same (c.short_event.ensures.done (caller ev) k tells xs h told)) in
@@ -102,7 +96,7 @@ returns-else-is_lent-clause-done g c = λ k tells xs h long n.
 pub returns-else-is_lent-clause-transferred : goal.returns-else-is_lent-clause-transferred
 returns-else-is_lent-clause-transferred g c = λ k tells xs b ys h long unlent runs.
     let ev = c.args.event.now in
-    short_bytes ev.call (caller ev) (stream_of k xs) b c.args.io.now (short_call (is_own_call ev.call) (is_act_call ev.call) (is_waiting_call ev.call) (is_lent_call ev.call) c.requires.built (sym c.is_waiting.ensures ∙ c.if-is_waiting.false) (sym c.is_lent.ensures ∙ c.if-is_lent.false))
+    short_bytes ev.call (caller ev) (stream_of k xs) b c.args.io.now (short_call ev.call c.requires.call (sym c.is_waiting.ensures ∙ c.if-is_waiting.false) (sym c.is_lent.ensures ∙ c.if-is_lent.false))
 
 -- ---- what waits
 
@@ -135,9 +129,6 @@ returns-in-Some-clause-still g c e = absurd (c.waiting_event.ensures.told e)
 
 -- ---- what is lent bytes
 
-pub bytes_event-requires-clause-lent : goal.bytes_event-requires-clause-lent
-bytes_event-requires-clause-lent g c = c.requires.lent
-
 pub returns-then-is_lent-clause-done : goal.returns-then-is_lent-clause-done
 returns-then-is_lent-clause-done g c = λ k tells xs h long n.
     let ev = c.args.event.now in
@@ -147,8 +138,8 @@ returns-then-is_lent-clause-done g c = λ k tells xs h long n.
     let linked = nat_lt 1 (length xs) in
     let q = event ev.call (caller ev) linked c.args.io.now s in
     let r = c.bytes_event.result in
-    let b = c.bytes_event.ensures.done (caller ev) linked k tells xs [] h n in
-    let free : is_free (caller ev) (calls_of ns) ≡ true = ap (is_free (caller ev)) c.bytes_event.ensures.calls ∙ caller_free ev.client ms xs h.stands c.requires.free in
+    let b = c.bytes_event.ensures.done (caller ev) linked k tells xs [] h long n in
+    let free : is_free (caller ev) (calls_of ns) ≡ true = ap (is_free (caller ev)) c.bytes_event.ensures.calls ∙ caller_free ev.call c.args.place ev.client ms xs h.stands (sym c.is_waiting.ensures ∙ c.if-is_waiting.false) c.requires.free in
     let ended = IsEndedBy-of (caller ev) tells q k xs [] [] r.reply r.first b.frames ns c.bytes_event.ensures.awake free b.ends in
     subst (λ (l : List Acted). IsCarriedBy ev.call (caller ev) tells q k xs l r.reply r.first r.moved ns) (sym c.requires.none) (record { frames = b.frames; moved = b.moved; ends = ended })
 

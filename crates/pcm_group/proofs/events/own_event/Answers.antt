@@ -1,16 +1,5 @@
-use Rattle.std.proofs.Common.{◌≡◌, ◌≢◌, ◌⊎◌, inl, inr, ◌+◌, ◌≤◌, ℕ, Bool, true, false, not, ◌||◌, cond, List, [], Some, None, length, set, refl, sym, ◌∙◌, ap, subst, arith}
-use Rattle.pcm_base.specs.declared.act.Updated.{Updated}
-use Rattle.pcm_base.specs.declared.act.Updated.TheVariants as updated
-use Rattle.pcm_base.specs.declared.call.CallKind.TheVariants as kind
-use Rattle.pcm_base.specs.declared.reply.Reply.TheVariants as reply
-use Rattle.pcm_base.specs.declared.state.Errno.TheVariants as errno
-use Rattle.pcm_base.specs.model.Acts.{table}
-use Rattle.pcm_base.specs.model.Group.{put_stream, stream_of}
-use Rattle.pcm_base.specs.model.Program.{says, fails, updated_or_epipe}
+use Rattle.std.proofs.Common.{◌≡◌, Bool, true, false, not, List, [], length, refl, sym, ◌∙◌, ap, subst, arith}
 use Rattle.pcm_base.specs.model.Stream.{Stream}
-use Rattle.pcm_base.specs.model.Update.{update}
-use Rattle.pcm_stream.specs.Members.{fixed_of, members_of}
-use Rattle.pcm_stream.specs.StandsFor.{StandsFor}
 use Rattle.std.proofs.Common.{◌∷◌, ◌↔◌, IsTrue, nat_lt}
 use Rattle.std.proofs.lemmas.Bool.Decides.{nat_tests}
 use Rattle.pcm_base.specs.declared.call.Call.{Call}
@@ -21,7 +10,6 @@ use Rattle.pcm_base.specs.declared.reply.Reply.{Reply}
 use Rattle.pcm_base.specs.declared.sleeper.Sleeper.{Sleeper}
 use Rattle.pcm_base.specs.model.Events.{event, is_busy}
 use Rattle.pcm_base.specs.model.Stream.{Waiting, Member as ModelMember}
-use Rattle.pcm_stream.specs.MembersStand.{IsMember}
 use Rattle.pcm_stream.specs.declared.substream.Substream.{Substream}
 use Rattle.sleepers.specs.Marks.{waiting}
 use Rattle.pcm_group.specs.Built.{own_frames}

@@ -1,24 +1,9 @@
-use Rattle.std.proofs.Common.{◌≡◌, ◌≢◌, ◌+◌, ◌≤◌, ℕ, Bool, true, false, cond, List, [], ◌∷◌, ◌++◌, Some, None, length, set, refl, sym, ◌∙◌, ap, subst, arith}
+use Rattle.std.proofs.Common.{◌≡◌, true, ◌∙◌, ap}
 use Rattle.pcm_base.specs.declared.act.Act.TheVariants as act
-use Rattle.pcm_base.specs.declared.call.CallKind.TheVariants as kind
-use Rattle.pcm_base.specs.declared.call.Mode.{Mode}
-use Rattle.pcm_base.specs.declared.call.Mode.TheVariants as mode
-use Rattle.pcm_base.specs.declared.reply.Reply.{Reply}
 use Rattle.pcm_base.specs.declared.reply.Reply.TheVariants as reply
-use Rattle.pcm_base.specs.declared.sleeper.Sleeper.{Sleeper}
-use Rattle.pcm_base.specs.declared.sleeper.Task.TheVariants as task
-use Rattle.pcm_base.specs.declared.state.Errno.TheVariants as errno
-use Rattle.pcm_base.specs.declared.state.State.{State}
-use Rattle.pcm_base.specs.model.Acts.{members_after, table}
-use Rattle.pcm_base.specs.model.Events.{drain_now, watch}
-use Rattle.pcm_base.specs.model.Group.{put_stream, stream_of}
-use Rattle.pcm_base.specs.model.Program.{fails, making, says}
-use Rattle.pcm_base.specs.model.Stream.{Stream, Waiting}
-use Rattle.pcm_base.specs.model.Transfer.{sleeping}
-use Rattle.pcm_base.specs.model.Words.{is_paused}
-use Rattle.pcm_stream.specs.declared.members.Member.{Member}
+use Rattle.pcm_base.specs.model.Acts.{members_after}
+use Rattle.pcm_base.specs.model.Events.{drain_now}
 use Rattle.pcm_stream.specs.Members.{members_of}
-use Rattle.group_trigger.proofs.ListLemmas.{map-set}
 use Rattle.pcm_group.specs.Waiting.{calls_of, is_free}
 use Rattle.pcm_group.proofs.AsleepLemmas.{IsEndedBy-done, IsEndedBy-of, set_up_after}
 use Rattle.pcm_group.proofs.EndedLemmas.{IsEnded-not_done}

@@ -1,20 +1,17 @@
-use Rattle.std.proofs.Common.{◌≡◌, ◌≢◌, ℕ, Bool, true, false, ◌||◌, nat_lt, List, [], ◌∷◌, length, map, set, Some, refl, sym, ◌∙◌, ap, subst}
+use Rattle.std.proofs.Common.{◌≡◌, ℕ, Bool, true, false, ◌||◌, nat_lt, [], length, set, refl, sym, ◌∙◌, ap, subst}
 use Rattle.pcm_base.specs.declared.call.Call.{Call}
 use Rattle.pcm_base.specs.declared.call.Call.TheVariants as call
-use Rattle.pcm_base.specs.declared.ids.SubId.{SubId}
-use Rattle.pcm_base.specs.declared.sleeper.Sleeper.{Sleeper}
 use Rattle.pcm_base.specs.model.Events.{event}
 use Rattle.pcm_base.specs.model.Group.{stream_of}
 use Rattle.pcm_base.specs.model.Stream.{Stream}
 use Rattle.pcm_stream.specs.declared.members.Member.{Member}
 use Rattle.pcm_stream.specs.Members.{members_of}
-use Rattle.group_trigger.proofs.ListLemmas.{map-set}
 use Rattle.group_trigger.proofs.VoteLemmas.{AllStandFor-length}
 use Rattle.pcm_group.specs.Built.{is_act_call, is_own_call, own_frames}
 use Rattle.pcm_group.specs.Ended.{IsEnded, IsOwnEnd}
 use Rattle.pcm_group.proofs.EndedLemmas.{IsEnded-own}
 use Rattle.pcm_group.proofs.PlaceLemmas.{IsThere, calls-fixed, numbers-fixed, set_stands, there}
-use Rattle.pcm_group.proofs.FaultLemmas.{KeepsCards-set}
+use Rattle.pcm_group.proofs.FaultLemmas.{KeepsCards-set, map-at}
 use Rattle.pcm_group.proofs.events.short_event.Goals as goal
 
 act_frames : (e : Call) (s : Stream) → is_act_call e ≡ true → own_frames e s ≡ 0
@@ -49,11 +46,11 @@ returns-then-is_own-clause-wants g c = c.own_event.ensures.wants
 
 pub returns-then-is_own-clause-numbers : goal.returns-then-is_own-clause-numbers
 returns-then-is_own-clause-numbers g c =
-    map-set (λ (y : Member g.row.C.Denot g.C.Card). y.sub) (members_of c.args.members.now) c.args.place c.at_mut.result.now c.own_event.new.member c.at_mut.ensures.value c.own_event.ensures.sub
+    map-at (λ (y : Member g.row.C.Denot g.C.Card). y.sub) (members_of c.args.members.now) c.args.place c.at_mut.result.now c.own_event.new.member c.at_mut.ensures.value c.own_event.ensures.sub
 
 pub returns-then-is_own-clause-calls : goal.returns-then-is_own-clause-calls
 returns-then-is_own-clause-calls g c =
-    map-set (λ (y : Member g.row.C.Denot g.C.Card). y.sleepers) (members_of c.args.members.now) c.args.place c.at_mut.result.now c.own_event.new.member c.at_mut.ensures.value c.own_event.ensures.sleepers
+    map-at (λ (y : Member g.row.C.Denot g.C.Card). y.sleepers) (members_of c.args.members.now) c.args.place c.at_mut.result.now c.own_event.new.member c.at_mut.ensures.value c.own_event.ensures.sleepers
 
 pub returns-else-is_own-clause-done : goal.returns-else-is_own-clause-done
 returns-else-is_own-clause-done g c = λ client k tells xs h n.

@@ -1,7 +1,6 @@
 use Rattle.std.proofs.Common.{◌≡◌, true, false, cond, sym, ◌∙◌}
 use Rattle.pcm_base.specs.declared.act.Act.TheVariants as act
 use Rattle.pcm_base.specs.declared.call.CallKind.TheVariants as kind
-use Rattle.pcm_base.specs.declared.reply.Reply.TheVariants as reply
 use Rattle.pcm_base.specs.declared.state.State.TheVariants as state
 use Rattle.pcm_base.specs.model.Acts.{table}
 use Rattle.pcm_base.specs.model.Events.{unplug_alone}

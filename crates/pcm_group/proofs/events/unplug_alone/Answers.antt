@@ -4,9 +4,9 @@ use Rattle.pcm_base.specs.declared.reply.Reply.TheVariants as reply
 use Rattle.pcm_base.specs.model.Events.{unplug_alone, unplugged}
 use Rattle.pcm_base.specs.model.Group.{stream_of}
 use Rattle.pcm_stream.specs.Members.{fixed_of, members_of}
-use Rattle.group_trigger.proofs.ListLemmas.{fixed-same, map-set}
+use Rattle.group_trigger.proofs.ListLemmas.{fixed-same}
 use Rattle.pcm_group.proofs.EndedLemmas.{IsEnded-own, keeps-same, stands-there}
-use Rattle.pcm_group.proofs.FaultLemmas.{KeepsCards-set}
+use Rattle.pcm_group.proofs.FaultLemmas.{KeepsCards-set, map-at}
 use Rattle.pcm_stream.specs.Members.{members_of}
 use Rattle.pcm_group.proofs.events.unplug_alone.Goals as goal
 
@@ -19,7 +19,7 @@ returns-clause-done g c k tells xs acts h stands =
 
 pub returns-clause-fixed : goal.returns-clause-fixed
 returns-clause-fixed g c =
-    map-set fixed_of (members_of c.args.members.now) c.args.place c.at_mut.result.now (record c.at_mut.result.now { stream = c.unplug.new.self }) c.at_mut.ensures.value
+    map-at fixed_of (members_of c.args.members.now) c.args.place c.at_mut.result.now (record c.at_mut.result.now { stream = c.unplug.new.self }) c.at_mut.ensures.value
     (fixed-same c.at_mut.result.now c.unplug.new.self c.unplug.ensures.shape (ap (λ f. is_some f.plan) c.unplug.ensures.card))
 
 pub returns-clause-cards : goal.returns-clause-cards

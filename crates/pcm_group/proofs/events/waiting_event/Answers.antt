@@ -1,31 +1,53 @@
-use Rattle.std.proofs.Common.{◌≡◌, ◌≢◌, ℕ, nat_lt, Bool, true, false, cond, not, ◌||◌, ◌&&◌, List, [], ◌∷◌, length, refl, sym, ◌∙◌, ap, subst}
+use Rattle.std.proofs.Common.{◌≡◌, ℕ, true, List, length, sym, ◌∙◌, ap, subst}
 use Rattle.pcm_base.specs.declared.call.Call.{Call}
 use Rattle.pcm_base.specs.declared.call.Call.TheVariants as call
 use Rattle.pcm_base.specs.declared.ids.ClientId.{ClientId}
-use Rattle.pcm_base.specs.declared.reply.Reply.{Reply}
-use Rattle.pcm_base.specs.declared.reply.Reply.TheVariants as reply
-use Rattle.pcm_base.specs.declared.state.Errno.TheVariants as errno
-use Rattle.pcm_base.specs.declared.state.State.{State}
 use Rattle.pcm_base.specs.declared.votes.Acted.{Acted}
-use Rattle.pcm_base.specs.model.Events.{drain, event, opens, program}
+use Rattle.pcm_base.specs.declared.sleeper.Sleeper.{Sleeper}
+use Rattle.pcm_base.specs.model.Events.{drain, event, go as going}
 use Rattle.pcm_base.specs.model.Group.{stream_of}
-use Rattle.pcm_base.specs.model.Program.{Answer, Program, fails}
-use Rattle.pcm_base.specs.model.Stream.{Stream, Member as ModelMember}
+use Rattle.pcm_base.specs.model.Program.{Program}
 use Rattle.pcm_base.specs.model.Transfer.{read as reading, write as writing}
-use Rattle.pcm_base.specs.model.Words.{is_closed}
 use Rattle.pcm_stream.specs.Members.{members_of}
-use Rattle.pcm_group.specs.Built.{is_act_call, is_own_call, is_waiting_call, own_frames}
 use Rattle.pcm_group.specs.Bytes.{HasLength, bytes_left}
-use Rattle.pcm_group.specs.Ended.{IsEnded, IsEndedBy, RunsTo}
-use Rattle.pcm_group.specs.Turn.{caller, caller_of, frames_moved, is_card_event}
-use Rattle.pcm_group.specs.Waiting.{calls_of, is_free}
-use Rattle.pcm_group.proofs.AsleepLemmas.{IsEndedBy-at, IsEndedBy-of}
+use Rattle.pcm_group.specs.Ended.{RunsTo}
+use Rattle.pcm_group.specs.Waiting.{calls_of, is_free_for}
+use Rattle.pcm_group.proofs.AsleepLemmas.{IsEndedBy-at}
 use Rattle.pcm_group.proofs.CarryLemmas.{IsEndedBy-told}
-use Rattle.pcm_group.proofs.EndedLemmas.{IsEnded-at, IsEnded-says, else-is, stands-there, then-is}
 use Rattle.pcm_group.proofs.events.waiting_event.Goals as goal
 
 pub drain-requires-clause-few : goal.drain-requires-clause-few
 drain-requires-clause-few g c = ap (λ (l : List Acted). length l) c.requires.none
+
+-- the client is free for a call of this kind
+free_at_call : (e d : Call) (i : ℕ) (c : ClientId) (ls : List (List Sleeper)) → e ≡ d → is_free_for e i c ls ≡ true → is_free_for d i c ls ≡ true
+free_at_call e d i c ls same h = subst (λ (x : Call). is_free_for x i c ls ≡ true) same h
+
+pub drain-requires-clause-free : goal.drain-requires-clause-free
+drain-requires-clause-free g c = free_at_call c.args.call (call.Drain c.in-Drain.mode) c.args.place c.args.client (calls_of (members_of c.args.members.now)) c.in-Drain.is c.requires.free
+
+pub write-requires-clause-free : goal.write-requires-clause-free
+write-requires-clause-free g c = free_at_call c.args.call (call.Write c.in-Write.layout c.in-Write.mode) c.args.place c.args.client (calls_of (members_of c.args.members.now)) c.in-Write.is c.requires.free
+
+pub read-requires-clause-free : goal.read-requires-clause-free
+read-requires-clause-free g c = free_at_call c.args.call (call.Read c.in-Read.layout c.in-Read.mode c.in-Read.n) c.args.place c.args.client (calls_of (members_of c.args.members.now)) c.in-Read.is c.requires.free
+
+pub go-requires-clause-free : goal.go-requires-clause-free
+go-requires-clause-free g c = free_at_call c.args.call call.Go c.args.place c.args.client (calls_of (members_of c.args.members.now)) c.in-Go.is c.requires.free
+
+pub returns-in-Go-clause-done : goal.returns-in-Go-clause-done
+returns-in-Go-clause-done g c = λ linked k tells xs h long.
+    let cl = c.args.client in
+    let s = stream_of k xs in
+    IsEndedBy-at cl tells (event c.args.call cl linked c.args.io.now s) (going cl c.args.io.now s) k xs c.args.acts.now c.go.new.acts c.go.result.reply c.go.result.first c.go.result.moved (members_of c.go.new.members)
+    (ap (λ (e : Call). event e cl linked c.args.io.now s) c.in-Go.is) (c.go.ensures.done k tells xs h)
+
+pub returns-in-Go-clause-bytes : goal.returns-in-Go-clause-bytes
+returns-in-Go-clause-bytes g c = λ linked k tells xs b ys h long runs.
+    let cl = c.args.client in
+    let s = stream_of k xs in
+    c.go.ensures.bytes k tells xs b ys h (subst (λ (p : Program). RunsTo tells p k xs c.go.new.acts b ys) (ap (λ (e : Call). event e cl linked c.args.io.now s) c.in-Go.is) runs)
+    ∙ sym (ap (λ (e : Call). bytes_left e cl s b c.args.io.now) c.in-Go.is)
 
 pub returns-in-Drain-clause-done : goal.returns-in-Drain-clause-done
 returns-in-Drain-clause-done g c = λ linked k tells xs h long.

@@ -1,4 +1,4 @@
-use Rattle.std.proofs.Common.{◌≡◌, ◌+◌, ◌-◌, ◌<◌, ◌≤◌, true, length, drop}
+use Rattle.std.proofs.Common.{◌≡◌, ◌-◌, ◌<◌, true, length, drop}
 use Rattle.pcm_base.specs.model.Replay.{is_member}
 use Rattle.pcm_stream.specs.Members.{members_of, numbers_of}
 use Rattle.pcm_group.proofs.group.place_of.Given as goal

@@ -1,4 +1,4 @@
-use Rattle.std.proofs.Common.{◌≡◌, ◌≢◌, ℕ, Bool, true, false, List, [], refl, sym, ap, ◌∙◌, subst}
+use Rattle.std.proofs.Common.{◌≡◌, ℕ, Bool, true, false, List, refl, sym, ap, ◌∙◌, subst}
 use Rattle.pcm_base.specs.declared.call.Call.{Call}
 use Rattle.pcm_base.specs.declared.call.Call.TheVariants as call
 use Rattle.pcm_base.specs.declared.card.Card.{Ghosts}
@@ -9,7 +9,8 @@ use Rattle.pcm_base.specs.model.Stream.{Stream}
 use Rattle.pcm_stream.specs.declared.substream.Substream.{Substream}
 use Rattle.pcm_group.specs.Carried.{IsOwnCarried}
 use Rattle.pcm_group.specs.Ended.{IsOwnEnd}
-use Rattle.pcm_group.specs.Lent.{IsLent, Loads, frames_given, is_reading}
+use Rattle.pcm_group.specs.Bytes.{HasLength}
+use Rattle.pcm_group.specs.Lent.{Loads, frames_given, is_reading}
 use Rattle.pcm_group.specs.Turn.{may_want_memory}
 use Rattle.pcm_group.proofs.mapped.lent_event.Goals as goal
 
@@ -21,11 +22,8 @@ at_call e d c linked io s r f n sub same h = subst (λ (x : Call). IsOwnCarried 
 leaves_at : (e d : Call) (s : Stream) (r : Reply) (io out : List ℕ) → e ≡ d → Loads d s r io out → Loads e s r io out
 leaves_at e d s r io out same h = subst (λ (x : Call). Loads x s r io out) (sym same) h
 
-pub load-requires : goal.load-requires
-load-requires g c = record { lent = subst (λ (e : Call). IsLent e c.args.stream.now c.args.io.now) c.in-Load.is c.requires.lent }
-
 pub returns-in-Store-clause-done : goal.returns-in-Store-clause-done
-returns-in-Store-clause-done g c client linked s h n =
+returns-in-Store-clause-done g c client linked s h long n =
     let d = call.Store c.in-Store.offset in
     at_call c.args.call d client linked c.args.io.now s c.store.result.reply c.store.result.first c.store.result.moved c.store.new.stream c.in-Store.is
     (record { frames = c.store.result.moved; moved = refl; ends = c.store.ensures.done client linked s h })
@@ -43,10 +41,10 @@ pub returns-in-Store-clause-idle : goal.returns-in-Store-clause-idle
 returns-in-Store-clause-idle g c e = absurd (c.store.ensures.told e)
 
 pub returns-in-Load-clause-done : goal.returns-in-Load-clause-done
-returns-in-Load-clause-done g c client linked s h n =
+returns-in-Load-clause-done g c client linked s h long n =
     let d = call.Load c.in-Load.offset c.in-Load.count in
     at_call c.args.call d client linked c.args.io.now s c.load.result.reply c.load.result.first c.load.result.moved c.args.stream.now c.in-Load.is
-    (record { frames = c.load.result.moved; moved = refl; ends = c.load.ensures.done client linked c.args.io.now s h })
+    (record { frames = c.load.result.moved; moved = refl; ends = c.load.ensures.done client linked c.args.io.now s h (subst (λ (e : Call). HasLength e c.args.io.now s) c.in-Load.is long) })
 
 pub returns-in-Load-clause-loaded : goal.returns-in-Load-clause-loaded
 returns-in-Load-clause-loaded g c s h =
@@ -65,7 +63,7 @@ pub returns-in-Load-clause-idle : goal.returns-in-Load-clause-idle
 returns-in-Load-clause-idle g c e = absurd (c.load.ensures.told e)
 
 pub returns-in-Give-clause-done : goal.returns-in-Give-clause-done
-returns-in-Give-clause-done g c client linked s h n =
+returns-in-Give-clause-done g c client linked s h long n =
     let io = c.args.io.now in
     let r = c.said.result in
     let frames = frames_given c.give.result s io in

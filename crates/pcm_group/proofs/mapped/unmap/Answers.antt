@@ -1,4 +1,4 @@
-use Rattle.std.proofs.Common.{◌≡◌, ℕ, ◌+◌, ◌-◌, refl}
+use Rattle.std.proofs.Common.{◌-◌, refl}
 use Rattle.pcm_base.specs.model.Events.{set_mappings}
 use Rattle.mmap_pages.specs.Mapped.{unmap_refusal}
 use Rattle.pcm_group.proofs.EndedLemmas.{keeps-same}

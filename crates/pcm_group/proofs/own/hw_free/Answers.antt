@@ -1,4 +1,4 @@
-use Rattle.std.proofs.Common.{◌≡◌, refl, sym, ◌∙◌, subst}
+use Rattle.std.proofs.Common.{refl, sym, ◌∙◌, subst}
 use Rattle.std.specs.declared.option.Option.{Option}
 use Rattle.pcm_base.specs.declared.call.CallKind.TheVariants as kind
 use Rattle.pcm_base.specs.declared.reply.Reply.TheVariants as reply

@@ -1,4 +1,4 @@
-use Rattle.std.proofs.Common.{◌≡◌, Bool, true, false, [], cond, Option, None, Some, Result, Err, IfErr, refl, sym, ap, subst, ◌∙◌}
+use Rattle.std.proofs.Common.{◌≡◌, Bool, true, false, [], Option, None, Some, Result, Err, IfErr, refl, sym, ap, subst, ◌∙◌}
 use Rattle.pcm_base.specs.declared.card.Card.{Ghosts}
 use Rattle.pcm_base.specs.declared.call.Call.TheVariants as call
 use Rattle.pcm_base.specs.declared.call.CallKind.TheVariants as kind
@@ -10,7 +10,7 @@ use Rattle.pcm_base.specs.declared.state.Errno.TheVariants as errno
 use Rattle.pcm_base.specs.model.Acts.{table}
 use Rattle.pcm_base.specs.model.Allowed.{accepts}
 use Rattle.pcm_base.specs.model.Events.{event, freed, if_held, is_busy}
-use Rattle.pcm_base.specs.model.Program.{fails, says, unless}
+use Rattle.pcm_base.specs.model.Program.{fails, says}
 use Rattle.pcm_base.specs.model.Stream.{Stream}
 use Rattle.pcm_base.specs.model.Words.{◌then◌}
 use Rattle.pcm_stream.specs.declared.substream.HwRefusal.{HwRefusal}

@@ -1,4 +1,4 @@
-use Rattle.std.proofs.Common.{◌≡◌, ℕ, List, [], ◌∷◌, refl}
+use Rattle.std.proofs.Common.{List, [], ◌∷◌, refl}
 use Rattle.pcm_base.specs.declared.config.SwParams.{SwParams}
 use Rattle.pcm_base.specs.declared.sleeper.Task.{Task}
 use Rattle.pcm_base.specs.declared.sleeper.Task.TheVariants as task
@@ -6,7 +6,6 @@ use Rattle.pcm_base.specs.model.Events.{set_sw}
 use Rattle.pcm_base.specs.model.Stream.{Stream, Waiting}
 use Rattle.pcm_stream.specs.MembersStand.{CallsFit, IsTransferOn, TaskFits}
 use Rattle.pcm_stream.specs.SetUp.{sw_refusal}
-use Rattle.pcm_group.specs.Ended.{KeepsCalls}
 use Rattle.pcm_group.proofs.OwnLemmas.{Own-unless}
 use Rattle.pcm_group.proofs.own.sw_params.Goals as goal
 

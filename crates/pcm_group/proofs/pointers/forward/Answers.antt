@@ -1,4 +1,4 @@
-use Rattle.std.proofs.Common.{◌≡◌, ◌≢◌, ◌⊎◌, inl, inr, refl, ap, ◌∙◌}
+use Rattle.std.proofs.Common.{◌≡◌, ◌≢◌, ◌⊎◌, inl, inr, ap, ◌∙◌}
 use Rattle.pcm_base.specs.declared.act.Updated.{Updated}
 use Rattle.pcm_base.specs.declared.act.Updated.TheVariants as updated
 use Rattle.pcm_base.specs.declared.call.CallKind.TheVariants as kind
@@ -7,10 +7,10 @@ use Rattle.pcm_base.specs.model.Group.{stream_of}
 use Rattle.pcm_base.specs.model.Sound.{is_set_up}
 use Rattle.pcm_base.specs.model.Stream.{Stream}
 use Rattle.pcm_stream.specs.Members.{fixed_of, members_of}
-use Rattle.group_trigger.proofs.ListLemmas.{fixed-same, map-set}
+use Rattle.group_trigger.proofs.ListLemmas.{fixed-same}
 use Rattle.pcm_group.proofs.EndedLemmas.{stands-there}
 use Rattle.pcm_group.proofs.PointerLemmas.{asks-epipe, asks-moved, asks-none, asks-refused, forwards_set_up, quiet, updated_set_up}
-use Rattle.pcm_group.proofs.FaultLemmas.{KeepsCards-same, KeepsCards-set, KeepsCards-then}
+use Rattle.pcm_group.proofs.FaultLemmas.{KeepsCards-same, KeepsCards-set, KeepsCards-then, map-at}
 use Rattle.std.proofs.Common.{set}
 use Rattle.pcm_group.proofs.pointers.forward.Goals as goal
 
@@ -43,7 +43,7 @@ pub returns-in-Nothing-clause-fixed : goal.returns-in-Nothing-clause-fixed
 returns-in-Nothing-clause-fixed g c =
     let ms = members_of c.refresh.new.members in
     let m = c.at_mut.result.now in
-    map-set fixed_of ms c.args.place m (record m { stream = c.forward_now.new.stream }) c.at_mut.ensures.value (fixed-same m c.forward_now.new.stream c.forward_now.ensures.shape c.forward_now.ensures.tells) ∙ c.refresh.ensures.fixed
+    map-at fixed_of ms c.args.place m (record m { stream = c.forward_now.new.stream }) c.at_mut.ensures.value (fixed-same m c.forward_now.new.stream c.forward_now.ensures.shape c.forward_now.ensures.tells) ∙ c.refresh.ensures.fixed
 
 pub returns-in-DrainDone : goal.returns-in-DrainDone
 returns-in-DrainDone g c = record {

@@ -1,4 +1,4 @@
-use Rattle.std.proofs.Common.{◌≡◌, min, refl, ap}
+use Rattle.std.proofs.Common.{min, refl, ap}
 use Rattle.pcm_base.specs.declared.reply.Reply.TheVariants as reply
 use Rattle.pcm_base.specs.model.PointerCalls.{on_by}
 use Rattle.pcm_base.specs.model.Stream.{avail}

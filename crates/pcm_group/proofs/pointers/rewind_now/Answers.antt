@@ -1,4 +1,4 @@
-use Rattle.std.proofs.Common.{◌≡◌, min, refl, ap}
+use Rattle.std.proofs.Common.{min, refl, ap}
 use Rattle.pcm_base.specs.declared.reply.Reply.TheVariants as reply
 use Rattle.pcm_base.specs.model.PointerCalls.{back_by, hw_avail}
 use Rattle.pcm_group.proofs.EndedLemmas.{keeps-same}

@@ -1,24 +1,19 @@
-use Rattle.std.proofs.Common.{◌≡◌, ◌≢◌, ℕ, ◌+◌, ◌-◌, Bool, true, false, cond, nat_eq, List, [], ◌∷◌, ◌++◌, length, refl, sym, ◌∙◌, ap, subst, arith}
+use Rattle.std.proofs.Common.{◌≡◌, ◌≢◌, true, cond, nat_eq, List, length, sym, ◌∙◌, ap, subst}
 use Rattle.pcm_base.specs.declared.act.Act.TheVariants as act
-use Rattle.pcm_base.specs.declared.act.Outcome.{Outcome}
-use Rattle.pcm_base.specs.declared.ids.ClientId.{ClientId}
 use Rattle.pcm_base.specs.declared.reply.Reply.{Reply}
 use Rattle.pcm_base.specs.declared.reply.Reply.TheVariants as reply
-use Rattle.pcm_base.specs.declared.sleeper.Task.{Task}
 use Rattle.pcm_base.specs.declared.sleeper.Task.TheVariants as task
 use Rattle.pcm_base.specs.declared.sleeper.Xfer.{Xfer}
 use Rattle.pcm_base.specs.declared.state.State.TheVariants as state
 use Rattle.pcm_base.specs.model.Acts.{members_after}
 use Rattle.pcm_base.specs.model.Frame.{Frame}
 use Rattle.pcm_base.specs.model.Group.{stream_of}
-use Rattle.pcm_base.specs.model.Program.{Makes, Program}
-use Rattle.pcm_base.specs.model.Stream.{Stream, Waiting, Member as ModelMember}
+use Rattle.pcm_base.specs.model.Program.{Makes}
+use Rattle.pcm_base.specs.model.Stream.{Waiting}
 use Rattle.pcm_base.specs.model.Transfer.{frames_or, sleeping, tells as telling, waiting_for}
 use Rattle.pcm_stream.specs.Members.{members_of}
 use Rattle.pcm_stream.specs.MembersStand.{TaskFits}
 use Rattle.xfer_loop.specs.Loop.{IsOnTheWay, after_stuck}
-use Rattle.xfer_loop.specs.declared.XferStep.{XferStep}
-use Rattle.xfer_loop.specs.declared.XferStep.TheVariants as step
 use Rattle.pcm_group.specs.Transfers.{IsWait}
 use Rattle.pcm_group.specs.Waiting.{calls_of, is_free}
 use Rattle.pcm_group.proofs.AsleepLemmas.{IsEndedBy-of, free_at}

@@ -1,32 +1,23 @@
-use Rattle.std.proofs.Common.{◌≡◌, ◌≢◌, ℕ, ◌+◌, ◌-◌, ◌≤◌, ◌<◌, Bool, true, false, cond, nat_eq, List, [], ◌∷◌, ◌++◌, length, drop, refl, sym, ◌∙◌, ap, subst, arith}
+use Rattle.std.proofs.Common.{◌≡◌, ◌≢◌, ℕ, ◌<◌, Bool, true, false, cond, nat_eq, List, [], ◌++◌, length, drop, refl, sym, ◌∙◌, ap, subst}
 use Rattle.pcm_base.specs.declared.act.Act.TheVariants as act
-use Rattle.pcm_base.specs.declared.act.Outcome.{Outcome}
-use Rattle.pcm_base.specs.declared.ids.ClientId.{ClientId}
 use Rattle.pcm_base.specs.declared.reply.Reply.{Reply}
 use Rattle.pcm_base.specs.declared.reply.Reply.TheVariants as reply
-use Rattle.pcm_base.specs.declared.sleeper.Xfer.{Xfer}
-use Rattle.pcm_base.specs.declared.votes.Acted.{Acted}
 use Rattle.pcm_base.specs.model.Acts.{members_after}
 use Rattle.pcm_base.specs.model.Frame.{Frame}
 use Rattle.pcm_base.specs.model.Group.{put_stream, stream_of}
-use Rattle.pcm_base.specs.model.Program.{Answer, Makes, Program}
-use Rattle.pcm_base.specs.model.Stream.{Setup, Stream, Member as ModelMember}
+use Rattle.pcm_base.specs.model.Program.{Makes}
+use Rattle.pcm_base.specs.model.Stream.{Stream}
 use Rattle.pcm_base.specs.model.Transfer.{after_start, frames_by, frames_or, tells as telling}
-use Rattle.pcm_base.specs.model.Words.{is_prepared}
-use Rattle.pcm_base.specs.declared.state.State.{State}
-use Rattle.pcm_base.specs.declared.call.Layout.{Layout}
 use Rattle.pcm_stream.specs.Members.{members_of}
 use Rattle.pcm_stream.specs.MembersStand.{IsTransferOn}
-use Rattle.xfer_loop.specs.Loop.{IsOnTheWay, after_stuck}
-use Rattle.xfer_loop.specs.declared.XferStep.{XferStep}
+use Rattle.xfer_loop.specs.Loop.{after_stuck}
 use Rattle.xfer_loop.specs.declared.XferStep.TheVariants as step
-use Rattle.pcm_group.specs.Ended.{IsAt, IsEnded, IsEndedBy, RunsTo}
-use Rattle.pcm_group.specs.Transfers.{IsHaltedAt, IsTransferOf, IsWait, bytes_with, going, halted}
+use Rattle.pcm_group.specs.Transfers.{IsWait, bytes_with, going, halted}
 use Rattle.pcm_group.specs.Waiting.{calls_of, is_free}
 use Rattle.pcm_group.proofs.AsleepLemmas.{IsEndedBy-at, IsEndedBy-of, IsEndedBy-then}
 use Rattle.pcm_group.proofs.CarryLemmas.{IsEnded-telling, IsEndedBy-told, first_now, frames_now}
 use Rattle.pcm_group.proofs.EndedLemmas.{IsEnded-at, IsEnded-then}
-use Rattle.pcm_group.proofs.GoOnLemmas.{AreBytesOf-fixed, IsEndedBy-turned, IsTransferOf-same, IsTransferOn-of, bytes_told, dir_after, halted_stuck, length-fixed, setup_after, start_done, start_fails, started, stuck_tells, turned-stream}
+use Rattle.pcm_group.proofs.GoOnLemmas.{AreBytesOf-fixed, IsEndedBy-turned, IsTransferOf-same, IsTransferOn-of, dir_after, halted_stuck, length-fixed, setup_after, start_done, start_fails, started, turned-stream}
 use Rattle.pcm_group.proofs.PlaceLemmas.{calls-fixed, numbers-fixed}
 use Rattle.pcm_group.proofs.TransferLemmas.{itself, same_frames}
 use Rattle.pcm_group.proofs.FaultLemmas.{KeepsCards-then}

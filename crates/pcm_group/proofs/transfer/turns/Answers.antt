@@ -1,21 +1,15 @@
-use Rattle.std.proofs.Common.{◌≡◌, ◌≢◌, ℕ, ◌+◌, ◌<◌, Bool, true, false, List, [], length, refl, sym, ◌∙◌, ap, subst, arith}
+use Rattle.std.proofs.Common.{ℕ, List, [], refl, sym, ◌∙◌, ap, subst, arith}
 use Rattle.std.specs.Prelude.{IsSome}
 use Rattle.std.specs.declared.option.Option.{Option}
 use Rattle.pcm_base.specs.declared.call.Layout.{Layout}
 use Rattle.pcm_base.specs.declared.config.Shape.{Shape}
 use Rattle.pcm_base.specs.declared.ids.ClientId.{ClientId}
 use Rattle.pcm_base.specs.declared.sleeper.Xfer.{Xfer}
-use Rattle.pcm_base.specs.model.Frame.{Frame}
-use Rattle.pcm_base.specs.model.Stream.{Stream}
 use Rattle.pcm_base.specs.model.Transfer.{frames_by}
-use Rattle.pcm_stream.specs.Members.{Fixed, fixed_of}
-use Rattle.pcm_stream.specs.StandsFor.{StandsFor, shape_in}
-use Rattle.xfer_loop.specs.Loop.{IsOnTheWay}
-use Rattle.xfer_loop.specs.declared.XferStep.{XferStep}
-use Rattle.xfer_loop.specs.declared.XferStep.TheVariants as step
+use Rattle.pcm_stream.specs.Members.{Fixed}
+use Rattle.pcm_stream.specs.StandsFor.{shape_in}
 use Rattle.xfer_loop.proofs.TurnLemmas.{config_in, room_in}
-use Rattle.pcm_group.specs.Transfers.{IsUnderWay}
-use Rattle.pcm_group.proofs.TransferLemmas.{IsNext, all_size, begins, bytes_stay, goes_on_by, itself, last_by_turn, same_frames, whole_by}
+use Rattle.pcm_group.proofs.TransferLemmas.{all_size, begins, bytes_stay, goes_on_by, itself, last_by_turn, same_frames, whole_by}
 use Rattle.pcm_group.proofs.transfer.turns.Goals as goal
 
 client : ClientId

@@ -1,15 +1,12 @@
 -- The call has been turned so far; its sizes and its bytes fit what rests.
-use Rattle.std.proofs.Common.{◌≡◌, ℕ, ◌+◌, List, true, length}
-use Rattle.std.specs.Prelude.{IsSome}
-use Rattle.std.specs.Option.{ForSome}
+use Rattle.std.proofs.Common.{◌≡◌, ◌+◌, List, true, length}
 use Rattle.pcm_base.specs.declared.ids.ClientId.{ClientId}
 use Rattle.pcm_base.specs.declared.sleeper.Xfer.{Xfer}
-use Rattle.pcm_base.specs.Shape.{AreFrames, count_of}
 use Rattle.pcm_base.specs.model.Frame.{Frame}
 use Rattle.pcm_base.specs.model.Stream.{Stream}
 use Rattle.pcm_base.specs.model.Transfer.{frames_by}
 use Rattle.pcm_stream.specs.Members.{fixed_of}
-use Rattle.pcm_stream.specs.StandsFor.{StandsFor, faults_of, shape_in}
+use Rattle.pcm_stream.specs.StandsFor.{StandsFor, faults_of}
 use Rattle.xfer_loop.specs.Loop.{IsOnTheWay}
 use Rattle.pcm_group.specs.Transfers.{IsUnderWay}
 use Rattle.pcm_group.proofs.transfer.turns.Given as goal

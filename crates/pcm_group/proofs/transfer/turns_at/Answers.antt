@@ -1,10 +1,9 @@
-use Rattle.std.proofs.Common.{◌≡◌, ◌∙◌, refl, ap}
+use Rattle.std.proofs.Common.{ap}
 use Rattle.pcm_base.specs.model.Group.{stream_of}
 use Rattle.pcm_stream.specs.Members.{fixed_of, members_of}
-use Rattle.group_trigger.proofs.ListLemmas.{map-set}
 use Rattle.pcm_group.proofs.EndedLemmas.{keeps-same, stands-there}
 use Rattle.pcm_group.proofs.GoOnLemmas.{IsAt-turned}
-use Rattle.pcm_group.proofs.FaultLemmas.{KeepsCards-set}
+use Rattle.pcm_group.proofs.FaultLemmas.{KeepsCards-set, map-at}
 use Rattle.pcm_stream.specs.Members.{Fixed}
 use Rattle.pcm_group.proofs.transfer.turns_at.Goals as goal
 
@@ -30,7 +29,7 @@ returns-clause-turned g c = λ cl x fs k tells xs h way.
     }
 
 pub returns-clause-fixed : goal.returns-clause-fixed
-returns-clause-fixed g c = map-set fixed_of (members_of c.args.members.now) c.args.place c.at_mut.result.now c.turns.new.member c.at_mut.ensures.value c.turns.ensures.fixed
+returns-clause-fixed g c = map-at fixed_of (members_of c.args.members.now) c.args.place c.at_mut.result.now c.turns.new.member c.at_mut.ensures.value c.turns.ensures.fixed
 
 pub returns-clause-cards : goal.returns-clause-cards
 returns-clause-cards g c = λ acts. KeepsCards-set acts (members_of c.args.members.now) c.args.place c.at_mut.result.now c.turns.new.member c.at_mut.ensures.value (ap (λ (f : Fixed). f.tells) c.turns.ensures.fixed) c.turns.ensures.faults

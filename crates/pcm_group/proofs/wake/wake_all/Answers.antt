@@ -1,16 +1,15 @@
-use Rattle.std.proofs.Common.{◌≡◌, ◌+◌, ◌<◌, ◌≤◌, ◌⊎◌, inl, inr, ℕ, suc, Bool, Some, true, List, length, length-set, set, bit_or, refl, sym, ◌∙◌, ap, subst, arith}
-use Rattle.std.specs.List.{slice_get}
+use Rattle.std.proofs.Common.{◌≡◌, ◌+◌, ◌≤◌, ℕ, suc, Bool, true, List, length, length-set, set, bit_or, sym, ◌∙◌, ap, subst, arith}
 use Rattle.pcm_base.specs.declared.ids.ClientId.{ClientId}
 use Rattle.pcm_base.specs.model.Sleep.{group_drains, mask_of, wake_members, woken_in}
 use Rattle.pcm_base.specs.model.Stream.{Member as ModelMember}
 use Rattle.pcm_stream.specs.declared.members.Member.{Member}
 use Rattle.pcm_stream.specs.declared.substream.Substream.{Substream}
 use Rattle.pcm_stream.specs.StandsFor.{faults_of, tells_plan}
-use Rattle.pcm_stream.specs.Members.{members_of, numbers_of}
-use Rattle.pcm_stream.specs.MembersStand.{AllStandFor, MemberStandsFor}
-use Rattle.group_trigger.proofs.ListLemmas.{map-set, slice_get-set_other}
-use Rattle.pcm_group.specs.Waiting.{calls_wait, checked_first, members_wait, woken_first}
+use Rattle.pcm_stream.specs.Members.{members_of}
+use Rattle.pcm_stream.specs.MembersStand.{AllStandFor}
+use Rattle.pcm_group.specs.Waiting.{checked_first, members_wait, woken_first}
 use Rattle.pcm_group.proofs.WakeLemmas.{all_waits, check_next, checked_all, streams_kept, streams_of, waits_next, woken_all, woken_next}
+use Rattle.pcm_group.proofs.FaultLemmas.{map-at}
 use Rattle.pcm_group.proofs.wake.wake_all.Goals as goal
 
 pub loop-i-preserved : goal.loop-i-preserved
@@ -29,9 +28,9 @@ loop-i-preserved g c =
           ∙ ap (λ (k : ℕ). mask_of (woken_first k b xs)) (sym next);
       waiting = λ j k lt at x h. waits_next b cur i j m n k c.at_mut.ensures.value c.wake_member-woken.ensures.waiting c.loop-i.invariant.waiting lt at x h;
       streams = λ xs h. c.loop-i.invariant.streams xs (streams_kept cur i m n xs c.at_mut.ensures.value c.wake_member-woken.ensures.stream h);
-      numbers = map-set (λ (y : Member g.row.C.Denot g.C.Card). y.sub) cur i m n c.at_mut.ensures.value c.wake_member-woken.ensures.sub ∙ c.loop-i.invariant.numbers;
-      tells = map-set (λ (y : Member g.row.C.Denot g.C.Card). tells_plan y.stream) cur i m n c.at_mut.ensures.value (ap (λ (t : Substream g.row.C.Denot g.C.Card). tells_plan t) c.wake_member-woken.ensures.stream) ∙ c.loop-i.invariant.tells;
-      faults = map-set (λ (y : Member g.row.C.Denot g.C.Card). faults_of y.stream) cur i m n c.at_mut.ensures.value (ap (λ (t : Substream g.row.C.Denot g.C.Card). faults_of t) c.wake_member-woken.ensures.stream) ∙ c.loop-i.invariant.faults;
+      numbers = map-at (λ (y : Member g.row.C.Denot g.C.Card). y.sub) cur i m n c.at_mut.ensures.value c.wake_member-woken.ensures.sub ∙ c.loop-i.invariant.numbers;
+      tells = map-at (λ (y : Member g.row.C.Denot g.C.Card). tells_plan y.stream) cur i m n c.at_mut.ensures.value (ap (λ (t : Substream g.row.C.Denot g.C.Card). tells_plan t) c.wake_member-woken.ensures.stream) ∙ c.loop-i.invariant.tells;
+      faults = map-at (λ (y : Member g.row.C.Denot g.C.Card). faults_of y.stream) cur i m n c.at_mut.ensures.value (ap (λ (t : Substream g.row.C.Denot g.C.Card). faults_of t) c.wake_member-woken.ensures.stream) ∙ c.loop-i.invariant.faults;
     }
 
 pub returns : goal.returns

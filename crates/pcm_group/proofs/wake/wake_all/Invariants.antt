@@ -1,4 +1,4 @@
-use Rattle.std.proofs.Common.{◌≡◌, ◌<◌, ◌≤◌, ℕ, Some, true, List, length}
+use Rattle.std.proofs.Common.{◌≡◌, ◌<◌, ℕ, Some, true, List, length}
 use Rattle.std.specs.List.{slice_get}
 use Rattle.pcm_base.specs.model.Sleep.{mask_of}
 use Rattle.pcm_base.specs.model.Stream.{Member as ModelMember}

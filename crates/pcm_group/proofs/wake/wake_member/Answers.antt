@@ -1,4 +1,4 @@
-use Rattle.std.proofs.Common.{◌≡◌, ℕ, Bool, true, false, List, [], Option, Some, None, refl, sym, ◌∙◌, ap, subst}
+use Rattle.std.proofs.Common.{◌≡◌, ℕ, true, false, List, Option, Some, None, refl, sym, ◌∙◌, ap, subst}
 use Rattle.std.specs.List.{AllByRecursion}
 use Rattle.std.proofs.lemmas.List.Elements.{recursion_from_All}
 use Rattle.pcm_base.specs.declared.config.Config.{Config}
@@ -6,7 +6,7 @@ use Rattle.pcm_base.specs.declared.reply.Page.{Page}
 use Rattle.pcm_base.specs.declared.sleeper.Sleeper.{Sleeper}
 use Rattle.pcm_base.specs.declared.state.State.{State}
 use Rattle.pcm_base.specs.model.Sleep.{is_among, mask_of, sleepers_that}
-use Rattle.pcm_base.specs.model.Stream.{Stream, Waiting, Member as ModelMember, avail}
+use Rattle.pcm_base.specs.model.Stream.{Waiting, Member as ModelMember, avail}
 use Rattle.sleepers.specs.Marks.{IsModelCheck, waiting}
 use Rattle.sleepers.specs.Wake.{may_wait_on}
 use Rattle.pcm_stream.specs.MembersStand.{CallsFit, MemberStandsFor}

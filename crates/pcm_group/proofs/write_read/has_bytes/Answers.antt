@@ -1,7 +1,5 @@
-use Rattle.std.proofs.Common.{◌≡◌, ℕ, Some, ap, sym, ◌∙◌}
+use Rattle.std.proofs.Common.{ap, sym, ◌∙◌}
 use Rattle.std.specs.Option.{option_copied}
-use Rattle.std.specs.Borrow.{Bor}
-use Rattle.pcm_base.specs.declared.config.Shape.{Shape}
 use Rattle.pcm_group.proofs.SizeLemmas.{has_by}
 use Rattle.pcm_group.proofs.write_read.has_bytes.Goals as goal
 

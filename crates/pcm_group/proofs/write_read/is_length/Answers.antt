@@ -1,4 +1,3 @@
-use Rattle.std.proofs.Common.{◌≡◌, ℕ}
 use Rattle.pcm_group.proofs.SizeLemmas.{other_length}
 use Rattle.pcm_group.proofs.write_read.is_length.Goals as goal
 

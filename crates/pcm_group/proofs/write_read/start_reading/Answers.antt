@@ -1,40 +1,27 @@
-use Rattle.std.proofs.Common.{◌≡◌, ◌≢◌, ◌⊎◌, inl, inr, ℕ, ◌+◌, ◌*◌, ◌≤◌, ◌<◌, Bool, true, false, cond, not, ◌&&◌, nat_eq, nat_le, List, [], ◌∷◌, ◌++◌, length, Some, None, refl, sym, ◌∙◌, ap, subst, arith}
-use Rattle.std.proofs.lemmas.Bool.Decides.{nat_tests}
+use Rattle.std.proofs.Common.{◌≡◌, ℕ, ◌<◌, Bool, true, false, ◌&&◌, nat_le, List, [], ◌∷◌, ◌++◌, refl, sym, ◌∙◌, ap, subst}
 use Rattle.pcm_base.specs.declared.act.Act.TheVariants as act
-use Rattle.pcm_base.specs.declared.act.Outcome.{Outcome}
-use Rattle.pcm_base.specs.declared.act.Updated.{Updated}
-use Rattle.pcm_base.specs.declared.act.Updated.TheVariants as updated
-use Rattle.pcm_base.specs.declared.call.CallKind.{CallKind}
-use Rattle.pcm_base.specs.declared.config.Config.{Config}
 use Rattle.pcm_base.specs.declared.ids.ClientId.{ClientId}
 use Rattle.pcm_base.specs.declared.reply.Reply.{Reply}
 use Rattle.pcm_base.specs.declared.reply.Reply.TheVariants as reply
 use Rattle.pcm_base.specs.declared.sleeper.Xfer.{Xfer}
-use Rattle.pcm_base.specs.declared.state.Dir.{Dir}
-use Rattle.pcm_base.specs.declared.state.Errno.TheVariants as errno
 use Rattle.pcm_base.specs.declared.votes.Acted.{Acted}
-use Rattle.std.specs.Option.{is_some}
-use Rattle.std.specs.declared.option.Option.{Option}
-use Rattle.pcm_base.specs.model.Acts.{members_after, table}
+use Rattle.pcm_base.specs.model.Acts.{members_after}
 use Rattle.pcm_base.specs.model.Frame.{Frame}
-use Rattle.pcm_base.specs.model.Group.{put_stream, stream_of}
-use Rattle.pcm_base.specs.model.Program.{Answer, Makes, Program, fails, going_on, making, says, unless, updated_or_epipe}
-use Rattle.pcm_base.specs.model.Stream.{Setup, Stream, Member as ModelMember}
+use Rattle.pcm_base.specs.model.Group.{stream_of}
+use Rattle.pcm_base.specs.model.Program.{Answer, Program, going_on, making}
+use Rattle.pcm_base.specs.model.Stream.{Stream}
 use Rattle.pcm_base.specs.model.Transfer.{frames_by, read_on, start_reading}
-use Rattle.pcm_base.specs.model.Update.{update}
 use Rattle.pcm_base.specs.model.Words.{is_prepared}
 use Rattle.pcm_stream.specs.Members.{members_of}
-use Rattle.pcm_group.specs.Ended.{IsAt, IsEnded, IsEndedBy, RunsTo}
-use Rattle.pcm_group.specs.Transfers.{IsLong, IsStartingRead, IsTransferOf, begun, bytes_with, entering, going, going_by, kind_by}
+use Rattle.pcm_group.specs.Ended.{RunsTo}
+use Rattle.pcm_group.specs.Transfers.{IsStartingRead, bytes_with, going, going_by}
 use Rattle.pcm_group.specs.Waiting.{calls_of, is_free}
 use Rattle.pcm_group.proofs.AsleepLemmas.{IsEndedBy-at, IsEndedBy-done, IsEndedBy-of}
-use Rattle.pcm_group.proofs.BeginLemmas.{IsEndedBy-reported, RunsTo-reported, begun_none, begun_on, bytes_with-same, enters_on, fits_config, is_quiet, keeps_setup, quiet_bytes, run_alike, starting}
+use Rattle.pcm_group.proofs.BeginLemmas.{bytes_with-same, quiet_bytes, run_alike}
 use Rattle.pcm_group.proofs.CarryLemmas.{IsEndedBy-told}
-use Rattle.pcm_group.proofs.EndedLemmas.{IsEnded-at, IsEnded-epipe, IsEnded-not_done, IsEnded-refused, IsEnded-says, RunsTo-act, allowed-is, goes, refused-is, stands-there, then-is}
+use Rattle.pcm_group.proofs.EndedLemmas.{IsEnded-not_done, RunsTo-act, goes, then-is}
 use Rattle.pcm_group.proofs.GoOnLemmas.{AreBytesOf-fixed, IsTransferOf-same, dir_after, length-fixed, setup_after}
 use Rattle.pcm_group.proofs.PlaceLemmas.{calls-fixed, numbers-fixed}
-use Rattle.pcm_group.proofs.SizeLemmas.{AreBytesOf-at}
-use Rattle.pcm_group.proofs.TransferLemmas.{same_frames}
 use Rattle.pcm_group.proofs.FaultLemmas.{KeepsCards-then}
 use Rattle.pcm_group.proofs.write_read.start_reading.Goals as goal
 

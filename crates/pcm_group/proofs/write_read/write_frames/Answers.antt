@@ -1,29 +1,24 @@
-use Rattle.std.proofs.Common.{◌≡◌, ◌≢◌, ℕ, ◌+◌, ◌*◌, ◌/◌, ◌%◌, ◌^◌, ◌≤◌, ◌<◌, Bool, true, false, cond, not, nat_eq, nat_le, List, [], ◌∷◌, length, Some, None, refl, sym, ◌∙◌, ap, subst, arith}
+use Rattle.std.proofs.Common.{◌≡◌, ℕ, ◌*◌, ◌/◌, ◌%◌, Bool, true, false, not, nat_eq, List, length, Some, None, refl, sym, ◌∙◌, ap, subst, arith}
 use Rattle.std.proofs.lemmas.Bool.Decides.{nat_tests}
-use Rattle.std.specs.declared.option.Option.{Option}
-use Rattle.pcm_base.specs.declared.call.CallKind.TheVariants as kind
 use Rattle.pcm_base.specs.declared.call.Layout.{Layout}
 use Rattle.pcm_base.specs.declared.call.Mode.{Mode}
 use Rattle.pcm_base.specs.declared.ids.ClientId.{ClientId}
 use Rattle.pcm_base.specs.declared.reply.Reply.{Reply}
 use Rattle.pcm_base.specs.declared.reply.Reply.TheVariants as reply
 use Rattle.pcm_base.specs.declared.sleeper.Xfer.{Xfer}
-use Rattle.pcm_base.specs.declared.state.Errno.{Errno}
 use Rattle.pcm_base.specs.declared.state.Errno.TheVariants as errno
-use Rattle.pcm_base.specs.model.Acts.{table}
-use Rattle.pcm_base.specs.model.Frame.{Frame}
 use Rattle.pcm_base.specs.model.Group.{stream_of}
-use Rattle.pcm_base.specs.model.Program.{Answer, Program, unless}
+use Rattle.pcm_base.specs.model.Program.{Program}
 use Rattle.pcm_base.specs.model.Stream.{Stream}
-use Rattle.pcm_base.specs.model.Transfer.{frames_by, is_whole, misfit, read, write}
+use Rattle.pcm_base.specs.model.Transfer.{frames_by, is_whole, misfit, write}
 use Rattle.pcm_base.specs.model.Words.{when}
 use Rattle.pcm_stream.specs.Members.{members_of}
-use Rattle.pcm_group.specs.Ended.{IsEndedBy, RunsTo}
-use Rattle.pcm_group.specs.Transfers.{IsFit, IsReadable, begun, bytes_with}
+use Rattle.pcm_group.specs.Ended.{RunsTo}
+use Rattle.pcm_group.specs.Transfers.{IsFit, begun}
 use Rattle.pcm_group.proofs.AsleepLemmas.{IsEndedBy-at, IsEndedBy-of}
-use Rattle.pcm_group.proofs.BeginLemmas.{all_whole, quiet_bytes, read_fits, write_fits}
+use Rattle.pcm_group.proofs.BeginLemmas.{all_whole, write_fits}
 use Rattle.pcm_group.proofs.CarryLemmas.{IsEndedBy-told}
-use Rattle.pcm_group.proofs.EndedLemmas.{IsEnded-refused, allowed-is, stands-there}
+use Rattle.pcm_group.proofs.EndedLemmas.{IsEnded-refused, allowed-is}
 use Rattle.pcm_group.proofs.FaultLemmas.{KeepsCards-same}
 use Rattle.pcm_group.proofs.write_read.write_frames.Goals as goal
 

@@ -1,15 +1,13 @@
-use Rattle.std.proofs.Common.{◌≡◌, ℕ, nat_lt, Bool, true, false, cond, not, ◌&&◌, List, [], ◌∷◌, ◌++◌, length, refl, sym, ◌∙◌, ap, subst}
+use Rattle.std.proofs.Common.{◌≡◌, ℕ, nat_lt, List, length, refl, sym, ◌∙◌, ap, subst}
 use Rattle.pcm_base.specs.declared.call.Call.{Call}
-use Rattle.pcm_base.specs.declared.call.Call.TheVariants as call
 use Rattle.pcm_base.specs.declared.reply.Reply.{Reply}
 use Rattle.pcm_base.specs.declared.votes.Acted.{Acted}
 use Rattle.pcm_base.specs.declared.ids.ClientId.{ClientId}
 use Rattle.pcm_base.specs.declared.ids.SubId.{SubId}
-use Rattle.pcm_base.specs.model.Events.{opens, program}
-use Rattle.pcm_base.specs.model.Words.{is_closed}
+use Rattle.pcm_base.specs.model.Events.{program}
 use Rattle.pcm_base.specs.model.Group.{GroupStep, Run, mark, stream_of}
 use Rattle.pcm_base.specs.model.Sleep.{group_drains, mask_of, wake, woken}
-use Rattle.pcm_base.specs.model.Stream.{Stream, Member as ModelMember}
+use Rattle.pcm_base.specs.model.Stream.{Member as ModelMember}
 use Rattle.pcm_stream.specs.Members.{all_faults, members_of}
 use Rattle.pcm_stream.specs.MembersStand.{AllStandFor}
 use Rattle.group_trigger.specs.Votes.{all_tell}
@@ -19,15 +17,16 @@ use Rattle.pcm_group.specs.declared.turn.Turn.{Turn}
 use Rattle.pcm_group.specs.Stepped.{IsTurn}
 use Rattle.pcm_group.specs.Turn.{caller, frames_moved}
 use Rattle.pcm_group.specs.Faults.{FaultsOver}
-use Rattle.pcm_group.proofs.CarriedLemmas.{sub_at}
+use Rattle.pcm_group.proofs.EventLemmas.{client_free}
 use Rattle.pcm_group.proofs.MemoryLemmas.{nobody_woken, unwoken}
 use Rattle.pcm_group.proofs.ToldLemmas.{run_told}
 use Rattle.pcm_group.proofs.PlaceLemmas.{IsAt-of}
 use Rattle.pcm_group.proofs.group.Group.step.Goals as goal
 
-pub event-carried-requires-clause-lent : goal.event-carried-requires-clause-lent
-event-carried-requires-clause-lent g c = λ m at.
-    c.requires.lent c.place_of-place.result m at (sub_at (members_of c.args.self.now.members) c.place_of-place.result m c.args.event.now.sub at c.place_of-place.ensures.number)
+pub event-carried-requires-clause-free : goal.event-carried-requires-clause-free
+event-carried-requires-clause-free g c =
+    let ev = c.args.event.now in
+    client_free ev.call ev.sub c.place_of-place.result ev.client (members_of c.args.self.now.members) c.args.self.now.distinct c.place_of-place.ensures.number c.requires.free
 
 pub returns-clause-step : goal.returns-clause-step
 returns-clause-step g c = λ xs h n.
