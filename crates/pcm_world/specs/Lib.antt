@@ -1,0 +1,9 @@
+pub mod Groups
+pub mod Calls
+pub mod Inside
+pub mod Stands
+pub mod Shown
+pub mod Laws
+pub mod Waiting
+pub mod Bytes
+pub mod Answered
