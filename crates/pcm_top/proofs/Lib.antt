@@ -1,11 +1,11 @@
 pub mod LineLemmas
 pub mod BoxLemmas
+pub mod LoadLemmas
 pub mod ScriptLemmas
 pub mod BehindLemmas
 pub mod FrontLemmas
 pub mod StreamLemmas
 pub mod OutputLemmas
-pub mod AloneLemmas
-pub mod WriteLemmas
-pub mod WorldLemmas
+pub mod EventLemmas
 pub mod SessionLemmas
+pub mod FeedLemmas

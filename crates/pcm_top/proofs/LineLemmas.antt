@@ -1,7 +1,6 @@
 -- The lines of bytes that begin with a line.
-use Rattle.std.proofs.Common.{◌≡◌, ◌==◌, ℕ, suc, ◌+◌, ◌-◌, ◌≤◌, ◌<◌, List, [], ◌∷◌, ◌++◌, length, take, drop, true, false, ◌||◌, refl, sym, ◌∙◌, ap, arith, add-one, ◌⊎◌, inl, inr, Bool, cond, nat_lt}
-use Rattle.std.specs.List.{onto_first, position_or_len, before_first, after_first}
-use Rattle.std.proofs.lemmas.Bool.Decides.{nat_tests}
+use Rattle.std.proofs.Common.{◌≡◌, ◌==◌, ℕ, ◌<◌, List, [], ◌∷◌, ◌++◌, length, true, false, ◌||◌, refl, sym, ◌∙◌, ap, arith, ◌⊎◌, inl, inr, Bool}
+use Rattle.std.specs.List.{onto_first}
 use Rattle.pcm_io.specs.Lines.{has_feed}
 use Rattle.pcm_top.specs.Lines.{lines_of, is_last, whole_lines, onto_whole}
 

@@ -1,5 +1,5 @@
 -- What of a run the program's call tells: what is written and stored for words that ask for a command.
-use Rattle.std.proofs.Common.{◌≡◌, ℕ, ◌+◌, List, [], ◌++◌, length, take, None, Some, refl, sym, ◌∙◌, ap, subst, inl, inr, arith}
+use Rattle.std.proofs.Common.{◌≡◌, ℕ, List, ◌++◌, length, take, None, Some, refl, sym, ◌∙◌, ap, subst, inl, inr, arith}
 use Rattle.std.specs.Prelude.{IfSome, ◌⊎◌}
 use Rattle.std.specs.declared.option.Option.{Option}
 use Rattle.std.specs.Io.KnownBytes.{Appends}
@@ -9,7 +9,7 @@ use Rattle.pcm_io.specs.Shelf.{Files}
 use Rattle.pcm_io.proofs.Taken.{appends_more}
 use Rattle.pcm_top.specs.declared.command.Command.{Command}
 use Rattle.pcm_top.specs.declared.end.End.{End}
-use Rattle.pcm_top.specs.declared.end.End.TheVariants.{Whole, BadLine, ScriptLines, ScriptBytes, ShelfFault}
+use Rattle.pcm_top.specs.declared.end.End.TheVariants.{Whole, BadLine, ScriptLines, ScriptBytes, ShelfFault, Missing, WavBytes, BadWav}
 use Rattle.pcm_top.specs.CodeSession.{IsRan, IsRanToFault, IsRanShort}
 use Rattle.pcm_top.specs.Output.{IsFrontRun, IsOutput, IsUpToFault, IsReached, IsPart, status_of}
 use Rattle.pcm_text.specs.declared.status.Status.{Status}
@@ -102,10 +102,13 @@ shelf-status Whole h = cc
 shelf-status (BadLine line fault) h = cc
 shelf-status ScriptLines h = cc
 shelf-status ScriptBytes h = cc
+shelf-status (Missing name) h = cc
+shelf-status WavBytes h = cc
+shelf-status (BadWav name fault) h = cc
 
 -- a script of lines of the command, whose stores go well, is executed whole
 pub output-complete : (c : Command) (script : List ℕ) (files files_now : Option Files) (before now : Option (List ℕ)) (ended : End) (result : Status) → result ≡ status_of ended
-    → IsOutput c script files files_now before now (status_of ended) → IsScript c script → (ended ≡ ShelfFault → ⊥) → (result ≡ status.Ok) ⊎ (result ≡ status.Memory)
+    → IsOutput c script files files_now before now (status_of ended) → IsScript c script files → (ended ≡ ShelfFault → ⊥) → (result ≡ status.Ok) ⊎ (result ≡ status.Memory)
 output-complete c script files files_now before now ended result e out is calm = elim (script-complete c script files out.last out.ended is out.gives) [
   | inl whole ↦ inl (e ∙ out.status ∙ ap status_of whole)
   | inr lost ↦ absurd (calm (shelf-status ended (out.status ∙ ap status_of lost)))

@@ -1,5 +1,5 @@
 -- What one more line of a script gives, and that a script whose stores go well gives one session and one end.
-use Rattle.std.proofs.Common.{◌≡◌, ℕ, ◌+◌, ◌≤◌, ◌==◌, Bool, true, false, List, [], ◌∷◌, ◌++◌, None, Some, refl, sym, ◌∙◌, ap, subst, inl, inr, arith, length, nat_lt, tests, rules, append-nil, eq-eqb}
+use Rattle.std.proofs.Common.{◌≡◌, ℕ, ◌+◌, ◌≤◌, ◌==◌, Bool, true, false, List, [], ◌∷◌, ◌++◌, None, Some, refl, sym, ◌∙◌, ap, subst, inl, inr, arith, length, append-nil, eq-eqb}
 use Rattle.std.specs.Prelude.{◌≢◌, ◌⊎◌, ◌<◌, ◌↔◌, IsTrue, if◌then◌else◌, Result, Ok, Err, OnErr}
 use Rattle.std.specs.declared.option.Option.{Option}
 use Rattle.std.proofs.lemmas.Bool.{cases_lt}
@@ -8,7 +8,7 @@ use Rattle.pcm_base.specs.declared.config.Model.{Model}
 use Rattle.pcm_base.specs.declared.config.Space.{Space as Box}
 use Rattle.pcm_line.specs.declared.error.LineError.{LineError}
 use Rattle.pcm_line.specs.declared.line.Line.{Line}
-use Rattle.pcm_line.specs.declared.line.Line.TheVariants.{Space, Save}
+use Rattle.pcm_line.specs.declared.line.Line.TheVariants.{Space}
 use Rattle.pcm_line.specs.Grammar.{IsLine}
 use Rattle.pcm_line.specs.Skipped.{IsSkipped}
 use Rattle.pcm_line.proofs.Spellings.{one-spelling, one-meaning}
@@ -25,8 +25,9 @@ use Rattle.pcm_top.specs.declared.session.Session.{Session as Kept}
 use Rattle.pcm_top.specs.CodeSession.{IsSession, IsNext, IsStopped, IsCut, HasPassed, HasEnded, HasLacked, IsStop, IsNoLine, StopsBy}
 use Rattle.pcm_top.specs.Lines.{lines_of, is_last}
 use Rattle.pcm_top.specs.Refine.{IsBoxLine, IsAnswer}
-use Rattle.pcm_top.specs.Script.{Answers, Halts, has, misplaced, HasFault, IsAnswered, IsBad, Passes, byte_limit, line_limit, limit_for, LineGives, Gives, FrontGives, Reaches, closing, whole_text}
-use Rattle.pcm_top.specs.Session.{Session, begin, AreFiles, AreFilesBut}
+use Rattle.pcm_top.specs.Script.{Answers, Halts, has, misplaced, HasFault, IsAnswered, IsBad, IsHalted, IsKnown, Passes, line_limit, limit_for, LineGives, Gives, Reaches, closing, whole_text}
+use Rattle.pcm_top.specs.Session.{Session, AreFiles, AreFilesBut}
+use Rattle.pcm_top.proofs.LoadLemmas.{IsFound, known-first, known-next, known-skipped, one-leads, one-halt, answers-halts, halts-has, halts-not-whole}
 
 -- ---- where the lines end
 
@@ -74,10 +75,10 @@ gives-passed c over count s next last ended bytes lines few passes follows =
     (inl (passes-on c (count + 1) (λ t. Gives c over (count + 1) t lines last ended) s next bytes passes follows))
 
 pub gives-halted : (c : Command) (over : Bool) (count : ℕ) (s last : Session) (ended : End) (line : Line) (bytes : List ℕ) (lines : List (List ℕ))
-    → limit_for (is_last over lines) count ≡ None → IsLine bytes line → Halts c line s last ended → Gives c over count s (bytes ∷ lines) last ended
-gives-halted c over count s last ended line bytes lines few says halts =
+    → limit_for (is_last over lines) count ≡ None → (¬ IsSkipped s.version bytes) → IsLine bytes line → Halts c line s last ended → Gives c over count s (bytes ∷ lines) last ended
+gives-halted c over count s last ended line bytes lines few speaks says halts =
     below c (limit_for (is_last over lines) count) (count + 1) (λ t. Gives c over (count + 1) t lines last ended) s last ended bytes few
-    (inr (inr (record { line = line; says = says; halts = halts })))
+    (inr (inr (record { speaks = speaks; line = line; says = says; halts = halts })))
 
 -- ---- what some of the lines lead to
 
@@ -120,22 +121,17 @@ one-answer m s a b (inl x) (inr y) = absurd (not-none m s a x y.0)
 one-answer m s a b (inr x) (inl y) = absurd (not-none m s b y x.0)
 one-answer m s a b (inr x) (inr y) = x.1 ∙ sym y.1
 
-pub one-next : (c : Command) (number : ℕ) (line : Line) (s a b : Session) → Answers c number line s a → Answers c number line s b → a ≡ b
-one-next Run number line s a b x y = x.1 ∙ sym y.1
-one-next Refine number (Space m space) s a b x y =
+pub one-next : (c : Command) (number : ℕ) (line : Line) (s a b : Session) → IsFound s.files line → Answers c number line s a → Answers c number line s b → a ≡ b
+one-next Run number line s a b told x y = one-leads number line s a b told x.1 y.1
+one-next Refine number (Space m space) s a b told x y =
     let texts : x.0 ≡ y.0 = one-answer m space x.0 y.0 x.1 y.1 in
     x.2 ∙ (ap (λ (t : List ℕ). let r : Session = record s { text = s.text ++ t } in r) texts ∙ sym y.2)
-one-next Refine number _ s a b x y = absurd x
+one-next Refine number _ s a b told x y = absurd x
 
 answers-has : (c : Command) (number : ℕ) (line : Line) (s t : Session) → Answers c number line s t → has c number line ≡ true
 answers-has Run number line s t h = h.0
 answers-has Refine number (Space m space) s t h = refl
 answers-has Refine number _ s t h = absurd h
-
-pub halts-stores : (c : Command) (line : Line) (s last : Session) (ended : End) → Halts c line s last ended → ended ≡ ShelfFault
-halts-stores Run (Save k name) s last ended h = h.3
-halts-stores Run _ s last ended h = absurd h
-halts-stores Refine line s last ended h = absurd h
 
 pub no-fault : (c : Command) (number : ℕ) (bytes : List ℕ) (line : Line) (fault : LineError) → IsLine bytes line → has c number line ≡ true → HasFault c number bytes fault → ⊥
 no-fault c number bytes line fault says own (inl f) = line-no-fault bytes line fault says f
@@ -154,42 +150,63 @@ pub not-bad : (c : Command) (number : ℕ) (P : Session → Type 0) (s last : Se
 not-bad c number P s last ended bytes (inl h) bad = bad.speaks h.0
 not-bad c number P s last ended bytes (inr h) bad = no-fault c number bytes h.line bad.fault h.says (answers-has c number h.line s h.next h.answers) bad.why
 
--- what follows gives one session and one end
-abbrev IsOne : (Session → Session → End → Type 0) → Type 0
-IsOne rest = (t a b : Session) (e f : End) → e ≢ ShelfFault → f ≢ ShelfFault → rest t a e → rest t b f → (a ≡ b) × (e ≡ f)
+-- a line that is no line of the command is none that ends the script otherwise
+pub bad-not-halted : (c : Command) (number : ℕ) (s a b : Session) (e f : End) (bytes : List ℕ) → IsBad c number s a e bytes → IsHalted c s b f bytes → ⊥
+bad-not-halted c number s a b e f bytes x y = no-fault c number bytes y.line x.fault y.says (halts-has c number y.line s b f y.halts) x.why
 
-one-answered : (c : Command) (number : ℕ) (rest : Session → Session → End → Type 0) (s a b : Session) (e f : End) (bytes : List ℕ) → IsOne rest → e ≢ ShelfFault → f ≢ ShelfFault
-    → IsAnswered c number (λ t. rest t a e) s bytes → IsAnswered c number (λ t. rest t b f) s bytes → (a ≡ b) × (e ≡ f)
-one-answered c number rest s a b e f bytes one p q x y =
+-- a line that passes ends no script, where the shelf does not fail
+pub pass-not-halted : (c : Command) (number : ℕ) (P : Session → Type 0) (s last : Session) (ended : End) (bytes : List ℕ) (lines : List (List ℕ)) → IsKnown s.files (bytes ∷ lines) → ended ≢ ShelfFault
+    → Passes c number P s bytes → IsHalted c s last ended bytes → ⊥
+pass-not-halted c number P s last ended bytes lines known calm (inl x) y = y.speaks x.0
+pass-not-halted c number P s last ended bytes lines known calm (inr x) y =
+    let same : x.line ≡ y.line = one-meaning bytes x.line y.line x.says y.says in
+    answers-halts c number y.line s x.next last ended calm (known-first s.files bytes lines y.line known y.says) (subst (λ (l : Line). Answers c number l s x.next) same x.answers) y.halts
+
+one-halted : (c : Command) (s a b : Session) (e f : End) (bytes : List ℕ) (lines : List (List ℕ)) → IsKnown s.files (bytes ∷ lines) → e ≢ ShelfFault → f ≢ ShelfFault
+    → IsHalted c s a e bytes → IsHalted c s b f bytes → (a ≡ b) × (e ≡ f)
+one-halted c s a b e f bytes lines known p q x y =
+    let same : x.line ≡ y.line = one-meaning bytes x.line y.line x.says y.says in
+    one-halt c y.line s a b e f p q (known-first s.files bytes lines y.line known y.says) (subst (λ (l : Line). Halts c l s a e) same x.halts) y.halts
+
+-- what follows gives one session and one end
+abbrev IsOne : List (List ℕ) → (Session → Session → End → Type 0) → Type 0
+IsOne lines rest = (t a b : Session) (e f : End) → IsKnown t.files lines → e ≢ ShelfFault → f ≢ ShelfFault → rest t a e → rest t b f → (a ≡ b) × (e ≡ f)
+
+one-answered : (c : Command) (number : ℕ) (rest : Session → Session → End → Type 0) (s a b : Session) (e f : End) (bytes : List ℕ) (lines : List (List ℕ)) → IsOne lines rest → IsKnown s.files (bytes ∷ lines)
+    → e ≢ ShelfFault → f ≢ ShelfFault → IsAnswered c number (λ t. rest t a e) s bytes → IsAnswered c number (λ t. rest t b f) s bytes → (a ≡ b) × (e ≡ f)
+one-answered c number rest s a b e f bytes lines one known p q x y =
     let same : x.line ≡ y.line = one-meaning bytes x.line y.line x.says y.says in
     let here : Answers c number y.line s x.next = subst (λ (l : Line). Answers c number l s x.next) same x.answers in
-    let next : x.next ≡ y.next = one-next c number y.line s x.next y.next here y.answers in
-    one y.next a b e f p q (subst (λ (t : Session). rest t a e) next x.follows) y.follows
+    let next : x.next ≡ y.next = one-next c number y.line s x.next y.next (known-first s.files bytes lines y.line known y.says) here y.answers in
+    one y.next a b e f (known-next c number y.line s y.next bytes lines y.answers known) p q (subst (λ (t : Session). rest t a e) next x.follows) y.follows
 
-one-passed : (c : Command) (number : ℕ) (rest : Session → Session → End → Type 0) (s a b : Session) (e f : End) (bytes : List ℕ) → IsOne rest → e ≢ ShelfFault → f ≢ ShelfFault
-    → Passes c number (λ t. rest t a e) s bytes → Passes c number (λ t. rest t b f) s bytes → (a ≡ b) × (e ≡ f)
-one-passed c number rest s a b e f bytes one p q (inl x) (inl y) = one s a b e f p q x.1 y.1
-one-passed c number rest s a b e f bytes one p q (inl x) (inr y) = absurd (y.speaks x.0)
-one-passed c number rest s a b e f bytes one p q (inr x) (inl y) = absurd (x.speaks y.0)
-one-passed c number rest s a b e f bytes one p q (inr x) (inr y) = one-answered c number rest s a b e f bytes one p q x y
+one-passed : (c : Command) (number : ℕ) (rest : Session → Session → End → Type 0) (s a b : Session) (e f : End) (bytes : List ℕ) (lines : List (List ℕ)) → IsOne lines rest → IsKnown s.files (bytes ∷ lines)
+    → e ≢ ShelfFault → f ≢ ShelfFault → Passes c number (λ t. rest t a e) s bytes → Passes c number (λ t. rest t b f) s bytes → (a ≡ b) × (e ≡ f)
+one-passed c number rest s a b e f bytes lines one known p q (inl x) (inl y) = one s a b e f (known-skipped s bytes lines known) p q x.1 y.1
+one-passed c number rest s a b e f bytes lines one known p q (inl x) (inr y) = absurd (y.speaks x.0)
+one-passed c number rest s a b e f bytes lines one known p q (inr x) (inl y) = absurd (x.speaks y.0)
+one-passed c number rest s a b e f bytes lines one known p q (inr x) (inr y) = one-answered c number rest s a b e f bytes lines one known p q x y
 
-one-line : (c : Command) (o : Option End) (number : ℕ) (rest : Session → Session → End → Type 0) (s a b : Session) (e f : End) (bytes : List ℕ) → IsOne rest → e ≢ ShelfFault → f ≢ ShelfFault
-    → LineGives c o number (λ t. rest t a e) s a e bytes → LineGives c o number (λ t. rest t b f) s b f bytes → (a ≡ b) × (e ≡ f)
-one-line c (Some limit) number rest s a b e f bytes one p q x y = (x.0 ∙ sym y.0, x.1 ∙ sym y.1)
-one-line c None number rest s a b e f bytes one p q (inl x) (inl y) = one-passed c number rest s a b e f bytes one p q x y
-one-line c None number rest s a b e f bytes one p q (inl x) (inr (inl y)) = absurd (not-bad c number (λ t. rest t a e) s b f bytes x y)
-one-line c None number rest s a b e f bytes one p q (inr (inl x)) (inl y) = absurd (not-bad c number (λ t. rest t b f) s a e bytes y x)
-one-line c None number rest s a b e f bytes one p q (inr (inl x)) (inr (inl y)) =
+one-line : (c : Command) (o : Option End) (number : ℕ) (rest : Session → Session → End → Type 0) (s a b : Session) (e f : End) (bytes : List ℕ) (lines : List (List ℕ)) → IsOne lines rest → IsKnown s.files (bytes ∷ lines)
+    → e ≢ ShelfFault → f ≢ ShelfFault → LineGives c o number (λ t. rest t a e) s a e bytes → LineGives c o number (λ t. rest t b f) s b f bytes → (a ≡ b) × (e ≡ f)
+one-line c (Some limit) number rest s a b e f bytes lines one known p q x y = (x.0 ∙ sym y.0, x.1 ∙ sym y.1)
+one-line c None number rest s a b e f bytes lines one known p q (inl x) (inl y) = one-passed c number rest s a b e f bytes lines one known p q x y
+one-line c None number rest s a b e f bytes lines one known p q (inl x) (inr (inl y)) = absurd (not-bad c number (λ t. rest t a e) s b f bytes x y)
+one-line c None number rest s a b e f bytes lines one known p q (inl x) (inr (inr y)) = absurd (pass-not-halted c number (λ t. rest t a e) s b f bytes lines known q x y)
+one-line c None number rest s a b e f bytes lines one known p q (inr (inl x)) (inl y) = absurd (not-bad c number (λ t. rest t b f) s a e bytes y x)
+one-line c None number rest s a b e f bytes lines one known p q (inr (inl x)) (inr (inl y)) =
     (x.same ∙ sym y.same, x.here ∙ (ap (λ (w : LineError). BadLine number w) (one-why c number bytes x.fault y.fault x.why y.why) ∙ sym y.here))
-one-line c None number rest s a b e f bytes one p q (inr (inr x)) y = absurd (p (halts-stores c x.line s a e x.halts))
-one-line c None number rest s a b e f bytes one p q x (inr (inr y)) = absurd (q (halts-stores c y.line s b f y.halts))
+one-line c None number rest s a b e f bytes lines one known p q (inr (inl x)) (inr (inr y)) = absurd (bad-not-halted c number s a b e f bytes x y)
+one-line c None number rest s a b e f bytes lines one known p q (inr (inr x)) (inl y) = absurd (pass-not-halted c number (λ t. rest t b f) s a e bytes lines known p y x)
+one-line c None number rest s a b e f bytes lines one known p q (inr (inr x)) (inr (inl y)) = absurd (bad-not-halted c number s b a f e bytes y x)
+one-line c None number rest s a b e f bytes lines one known p q (inr (inr x)) (inr (inr y)) = one-halted c s a b e f bytes lines known p q x y
 
-pub one-end : (c : Command) (over : Bool) (count : ℕ) (s : Session) (lines : List (List ℕ)) (a b : Session) (e f : End) → e ≢ ShelfFault → f ≢ ShelfFault
+pub one-end : (c : Command) (over : Bool) (count : ℕ) (s : Session) (lines : List (List ℕ)) (a b : Session) (e f : End) → IsKnown s.files lines → e ≢ ShelfFault → f ≢ ShelfFault
     → Gives c over count s lines a e → Gives c over count s lines b f → (a ≡ b) × (e ≡ f)
-one-end c over count s [] a b e f p q x y = (x.0 ∙ sym y.0, x.1 ∙ sym y.1)
-one-end c over count s (bytes ∷ lines) a b e f p q x y =
-    one-line c (limit_for (is_last over lines) count) (count + 1) (λ t u g. Gives c over (count + 1) t lines u g) s a b e f bytes
-    (λ t u v g h i j. one-end c over (count + 1) t lines u v g h i j) p q x y
+one-end c over count s [] a b e f known p q x y = (x.0 ∙ sym y.0, x.1 ∙ sym y.1)
+one-end c over count s (bytes ∷ lines) a b e f known p q x y =
+    one-line c (limit_for (is_last over lines) count) (count + 1) (λ t u g. Gives c over (count + 1) t lines u g) s a b e f bytes lines
+    (λ t u v g h k i j. one-end c over (count + 1) t lines u v g h k i j) known p q x y
 
 -- ---- what the loop over the lines keeps
 
@@ -269,12 +286,12 @@ skips b v w bytes same h e = subst (λ (n : ℕ). IsSkipped n bytes) same (h.0 e
 pub speaks-on : (b : Bool) (v w : ℕ) (bytes : List ℕ) → v ≡ w → (IsTrue b ↔ IsSkipped v bytes) → b ≡ false → ¬ IsSkipped w bytes
 speaks-on b v w bytes same h e = λ skipped. let yes : b ≡ true = h.1 (subst (λ (n : ℕ). IsSkipped n bytes) (sym same) skipped) in let no : true ≡ false = sym yes ∙ e in cc
 
-pub ended-halted : (c : Command) (last : Bool) (count : ℕ) (bytes : List ℕ) (s : Session) (line : Line) (text : List ℕ) (files : Option Files)
-    → limit_for last count ≡ None → IsLine bytes line → IsStopped c line s text files → HasEnded c last count bytes s text files ShelfFault
-ended-halted c last count bytes s line text files few says stopped = record {
+pub ended-halted : (c : Command) (last : Bool) (count : ℕ) (bytes : List ℕ) (s : Session) (line : Line) (text : List ℕ) (files : Option Files) (ended : End)
+    → limit_for last count ≡ None → (¬ IsSkipped s.version bytes) → IsLine bytes line → IsStopped c line s text files ended → HasEnded c last count bytes s text files ended
+ended-halted c last count bytes s line text files ended few speaks says stopped = record {
   last = stopped.last;
-  gives = λ over lines e. gives-halted c over count s stopped.last ShelfFault line bytes lines (ap (λ (b : Bool). limit_for b count) e ∙ few) says stopped.halts;
-  not_whole = λ w. cc;
+  gives = λ over lines e. gives-halted c over count s stopped.last ended line bytes lines (ap (λ (b : Bool). limit_for b count) e ∙ few) speaks says stopped.halts;
+  not_whole = halts-not-whole c line s stopped.last ended stopped.halts;
   text_is = stopped.written;
   shelf = stopped.shelf;
 }

@@ -1,5 +1,5 @@
 -- What a line of `run` makes of a session, and the end of its text.
-use Rattle.std.proofs.Common.{◌≡◌, ℕ, ◌%◌, ◌^◌, ◌<◌, ◌≤◌, Bool, true, false, not, ◌&&◌, List, [], ◌∷◌, ◌++◌, length, refl, sym, ◌∙◌, ap, subst, inl, inr, Vec, Global, Result, Ok, Err, is_ok, OnOk, min, ◌-◌, append-nil, append_assoc, zero, suc, add-one, arith, lit<, lit≤, mul_comm}
+use Rattle.std.proofs.Common.{◌≡◌, ℕ, ◌%◌, ◌^◌, Bool, true, false, not, ◌&&◌, List, [], ◌∷◌, ◌++◌, length, refl, sym, ◌∙◌, ap, subst, inl, inr, Vec, Global, Result, Ok, Err, is_ok, OnOk, min, ◌-◌, append-nil, append_assoc, zero, suc, add-one, arith, mul_comm}
 use Rattle.std.specs.FinMap.{get, insert}
 use Rattle.std.specs.List.{flat_map, range_with_len}
 use Rattle.std.specs.Prelude.{if◌then◌else◌, nat_eq, nat_lt, nat_le, ◌||◌, ◌+◌}
@@ -11,7 +11,6 @@ use Rattle.std.specs.declared.option.Option.TheVariants.{Some, None}
 use Rattle.pcm_base.specs.declared.config.CardModel.{CardModel}
 use Rattle.pcm_base.specs.declared.config.Config.{Config}
 use Rattle.pcm_base.specs.declared.config.Model.{Model}
-use Rattle.pcm_base.specs.declared.config.Model.TheVariants as model
 use Rattle.pcm_base.specs.declared.config.Space.{Space as Box}
 use Rattle.pcm_base.specs.declared.format.Format.{Format}
 use Rattle.pcm_base.specs.declared.format.Format.TheVariants as format
@@ -27,7 +26,6 @@ use Rattle.pcm_base.specs.declared.state.State.{State}
 use Rattle.pcm_base.specs.declared.state.State.TheVariants as state
 use Rattle.pcm_base.specs.contracts.state.State as state_contract
 use Rattle.pcm_base.specs.Numbers.{sample_bytes}
-use Rattle.pcm_base.specs.model.Allowed.{accepts, frame_bytes_of}
 use Rattle.pcm_base.specs.model.Frame.{bytes_of}
 use Rattle.pcm_base.specs.model.Group.{stream_of}
 use Rattle.pcm_base.specs.model.Sound.{Sound, SoundAt, IsConfigured}
@@ -35,38 +33,43 @@ use Rattle.pcm_base.specs.model.Events.{page}
 use Rattle.pcm_base.specs.model.Stream.{Stream, Member, fresh, no_stream}
 use Rattle.pcm_base.specs.model.Words.{when, ◌then◌, is_closed, is_playback}
 use Rattle.pcm_base.specs.model.World.{World, Told, holds, group_of, lone, is_declared, set_long, declare, stream_in, state_in, stays}
-use Rattle.card_emul.specs.Limits.{limits_of}
 use Rattle.pcm_io.specs.Shelf.{Files, Stay, Stores, OthersStay}
-use Rattle.pcm_laws.proofs.Sizes.{accepts-allows}
 use Rattle.pcm_line.specs.declared.line.Line.{Line}
 use Rattle.pcm_line.specs.declared.line.Line.TheVariants.{Save, Space}
 use Rattle.pcm_text.specs.End.{end_line}
 use Rattle.pcm_text.specs.Told.{told_line}
 use Rattle.wav_file.specs.Grammar.{CanWrite, IsWavFormat, wav_bytes}
-use Rattle.pcm_top.specs.CodeSession.{IsSession, IsCut, IsNext, Keeps}
-use Rattle.pcm_top.specs.OneStream.{IsWorld, shown}
+use Rattle.pcm_top.specs.CodeSession.{HasWavNumbers, IsSession, IsCut, IsNext, IsStopped, Keeps}
+use Rattle.pcm_top.specs.declared.end.End.TheVariants.{ShelfFault}
 use Rattle.pcm_top.specs.Refine.{IsAnswer}
-use Rattle.pcm_top.specs.Run.{has_wav_format, is_wav_format, save_refusal, saved_file, file_by, save_answer, files_saved, stored, run_line, tells, end_line_of, is_built}
-use Rattle.pcm_top.specs.Session.{Session, AreFilesBut}
+use Rattle.pcm_top.specs.Run.{has_wav_format, is_wav_format, save_refusal, saved_file, file_by, save_answer, files_saved, stored, run_line, tells, end_line_of}
+use Rattle.pcm_top.specs.Session.{Session}
 use Rattle.pcm_top.specs.declared.command.Command.{Command}
 use Rattle.pcm_top.specs.declared.command.Command.TheVariants.{Run, Refine}
 use Rattle.pcm_top.specs.declared.session.Session.{Session as Kept}
-use Rattle.pcm_top.specs.declared.world.World.{World as OneStream}
+use Rattle.pcm_world.specs.declared.world.World.{World as CodeWorld}
+use Rattle.pcm_world.specs.Shown.{IsWorld, shown}
 use denote.Enum.Bare.{sameb}
 
 -- ---- what a world shows of a substream
 
--- a substream that is not declared is closed
-nowhere : (k : SubId) (ms : List Member) → false ≡ holds k ms → state.Closed ≡ (stream_of k ms).state
+-- a substream that is not declared has no stream of its own
+nowhere : (k : SubId) (ms : List Member) → holds k ms ≡ false → stream_of k ms ≡ no_stream
 nowhere k [] h = refl
 nowhere k (m ∷ ms) h = by (nat_eq m.sub.0 k.0) h (nowhere k ms)
   where
-    by : (b : Bool) → false ≡ (b || holds k ms) → (false ≡ holds k ms → state.Closed ≡ (stream_of k ms).state) → state.Closed ≡ (if b then m.stream else stream_of k ms).state
+    by : (b : Bool) → (b || holds k ms) ≡ false → (holds k ms ≡ false → stream_of k ms ≡ no_stream) → (if b then m.stream else stream_of k ms) ≡ no_stream
     by true h others = cc
     by false h others = others h
 
+pub stream-undeclared : (k : SubId) (w : World) → is_declared k w ≡ false → stream_in k w ≡ no_stream
+stream-undeclared k w h = nowhere k (group_of k w.groups) h
+
 pub state-undeclared : (k : SubId) (w : World) → false ≡ is_declared k w → state.Closed ≡ state_in k w
-state-undeclared k w h = nowhere k (group_of k w.groups) h
+state-undeclared k w h = sym (ap (λ (s : Stream). s.state) (stream-undeclared k w (sym h)))
+
+pub plays-undeclared : (k : SubId) (w : World) → is_declared k w ≡ false → is_playback (stream_in k w).dir ≡ true
+plays-undeclared k w h = ap (λ (s : Stream). is_playback s.dir) (stream-undeclared k w h)
 
 -- a group behind the others holds the substream, where none of them does
 group-behind : (k : SubId) (gs : List (List Member)) (g : List Member) → holds k (group_of k gs) ≡ false → group_of k (gs ++ g ∷ []) ≡ group_of k (g ∷ [])
@@ -120,14 +123,29 @@ is-closed state.Paused b e = e
 is-closed state.Suspended b e = e
 is-closed state.Disconnected b e = e
 
+pub and_second : (a b : Bool) → (a && b) ≡ true → b ≡ true
+and_second true b h = h
+and_second false b h = cc
+
 -- ---- a line of an answer without bytes
 
-pub tells-ok : (r : Result (Unit {0}) AllocError) (world : OneStream) (version number : ℕ) (told : Shown) (t : Told) (s : Session) (old : List ℕ) (text : Vec ℕ Global)
+pub tells-shown : (r : Result (Unit {0}) AllocError) (world : CodeWorld) (version number : ℕ) (told : Shown) (t : Told) (bytes shows : Option (List ℕ)) (s : Session) (old : List ℕ) (text : Vec ℕ Global)
+    → OnOk r (text.items ≡ old ++ told_line number told bytes) → told ≡ shown t → bytes ≡ shows → old ≡ s.text → version ≡ s.version → IsWorld world t.world
+    → OnOk r (Keeps (record { world = world; version = version; text = text }) (tells number t shows s))
+tells-shown (Ok u) world version number told t bytes shows s old text line e b same v is =
+    record {
+      world = is;
+      version = v;
+      text =
+          line ∙ ap (λ (l : List ℕ). l ++ told_line number told bytes) same ∙ ap (λ (x : Shown). s.text ++ told_line number x bytes) e
+          ∙ ap (λ (x : Option (List ℕ)). s.text ++ told_line number (shown t) x) b;
+    }
+tells-shown (Err x) world version number told t bytes shows s old text line e b same v is = tt
+
+pub tells-ok : (r : Result (Unit {0}) AllocError) (world : CodeWorld) (version number : ℕ) (told : Shown) (t : Told) (s : Session) (old : List ℕ) (text : Vec ℕ Global)
     → OnOk r (text.items ≡ old ++ told_line number told None) → told ≡ shown t → old ≡ s.text → version ≡ s.version → IsWorld world t.world
     → OnOk r (Keeps (record { world = world; version = version; text = text }) (tells number t None s))
-tells-ok (Ok u) world version number told t s old text line e same v is =
-    record { world = is; version = v; text = line ∙ ap (λ (l : List ℕ). l ++ told_line number told None) same ∙ ap (λ (x : Shown). s.text ++ told_line number x None) e }
-tells-ok (Err x) world version number told t s old text line e same v is = tt
+tells-ok r world version number told t s old text line e same v is = tells-shown r world version number told t None None s old text line e refl same v is
 
 -- ---- why what a card took is stored, or not
 
@@ -147,21 +165,6 @@ unset-savable dir.Capture o e = refl
 
 -- ---- the file of what a card took
 
--- the channels and the rates of a model are those that a WAV file can have
-record IsModest (m : CardModel) : Type 0 where
-  some_channels : 1 ≤ m.channels.least
-  few_channels : m.channels.most ≤ 8
-  some_rate : 1 ≤ m.rate.least
-  rate : m.rate.most < 2 ^ 32
-
-modest : (x : Model) → IsModest (limits_of x)
-modest model.Basic = record { some_channels = lit≤ tt; few_channels = lit≤ tt; some_rate = lit≤ tt; rate = lit< tt }
-modest model.Duplex = record { some_channels = lit≤ tt; few_channels = lit≤ tt; some_rate = lit≤ tt; rate = lit< tt }
-modest model.Studio = record { some_channels = lit≤ tt; few_channels = lit≤ tt; some_rate = lit≤ tt; rate = lit< tt }
-modest model.NoPause = record { some_channels = lit≤ tt; few_channels = lit≤ tt; some_rate = lit≤ tt; rate = lit< tt }
-modest model.NoResume = record { some_channels = lit≤ tt; few_channels = lit≤ tt; some_rate = lit≤ tt; rate = lit< tt }
-modest model.Indirect = record { some_channels = lit≤ tt; few_channels = lit≤ tt; some_rate = lit≤ tt; rate = lit< tt }
-
 wav-format : (f : Format) → is_wav_format f ≡ true → IsWavFormat f
 wav-format format.S8 h = cc
 wav-format format.U8 h = tt
@@ -172,28 +175,19 @@ wav-format format.S32Le h = tt
 wav-format format.S32Be h = cc
 wav-format format.S24Le3 h = tt
 
-can-write : (x : Model) (n : ℕ) (c : Config) (frames : List ℕ) → accepts (limits_of x) n c ≡ true → is_wav_format c.format ≡ true → length frames % frame_bytes_of c ≡ 0
-    → CanWrite (record { format = c.format; channels = c.channels; rate = c.rate; frames = frames })
-can-write x n c frames h f whole =
-    let a = accepts-allows (limits_of x) n c h in
-    let m = modest x in
+pub stream-can-write : (s : Stream) (c : Config) (frames : List ℕ) → HasWavNumbers c → Sound s → s.setup.config ≡ Some c → is_wav_format c.format ≡ true
+    → length frames % s.setup.frame_bytes ≡ 0 → CanWrite (record { format = c.format; channels = c.channels; rate = c.rate; frames = frames })
+stream-can-write s c frames numbers sound has f whole =
+    let set : IsConfigured c s = subst (λ (o : Option Config). SoundAt o s) has sound in
+    let shaped = subst (λ (k : ℕ). length frames % k ≡ 0) set.shaped.frame_bytes whole in
     record {
       format = wav-format c.format f;
-      least = omega (arith, m.some_channels, a.channels.least);
-      most = omega (arith, m.few_channels, a.channels.most);
-      some_rate = omega (arith, m.some_rate, a.rate.least);
-      rate = omega (arith, m.rate, a.rate.most);
-      whole = rw (mul_comm c.channels (sample_bytes c.format)) whole;
+      least = numbers.least;
+      most = numbers.most;
+      some_rate = numbers.some_rate;
+      rate = numbers.rate;
+      whole = rw (mul_comm c.channels (sample_bytes c.format)) shaped;
     }
-
-pub stream-can-write : (x : Model) (s : Stream) (c : Config) (frames : List ℕ) → s.model ≡ limits_of x → Sound s → s.setup.config ≡ Some c → is_wav_format c.format ≡ true
-    → length frames % s.setup.frame_bytes ≡ 0 → CanWrite (record { format = c.format; channels = c.channels; rate = c.rate; frames = frames })
-stream-can-write x s c frames named sound has f whole =
-    let set : IsConfigured c s = subst (λ (o : Option Config). SoundAt o s) has sound in
-    let shaped = set.shaped in
-    can-write x s.long_max c frames
-    (subst (λ (m : CardModel). accepts m s.long_max c ≡ true) named shaped.allowed) f
-    (subst (λ (k : ℕ). length frames % k ≡ 0) shaped.frame_bytes whole)
 
 pub saved-file : (s : Stream) (c : Config) (frames file : List ℕ) → s.setup.config ≡ Some c → frames ≡ bytes_of s.card.taken
     → file ≡ wav_bytes (record { format = c.format; channels = c.channels; rate = c.rate; frames = frames }) → file ≡ saved_file s
@@ -268,10 +262,10 @@ cut-untouched c number line k s files is = record {
 }
 
 -- the file was stored, and then memory was wanting
-pub save-cut : (number : ℕ) (k : SubId) (name : List ℕ) (s : Session) (now : Option Files) → is_built (Save k name) ≡ true → Stay (files_saved k name s.world s.files) now → IsCut Run number (Save k name) s now
-save-cut number k name s now own stay = record {
+pub save-cut : (number : ℕ) (k : SubId) (name : List ℕ) (s : Session) (now : Option Files) → Stay (files_saved k name s.world s.files) now → IsCut Run number (Save k name) s now
+save-cut number k name s now stay = record {
   last = run_line number (Save k name) s;
-  reached = inr (own, refl);
+  reached = inr (refl, refl);
   shelf = stay;
 }
 
@@ -285,15 +279,29 @@ save-text number k w told r old text now t answer same line =
 pub save-session : (kept : Kept) (number : ℕ) (k : SubId) (name : List ℕ) (s : Session) (files now : Option Files) (told : Shown) (r : Reply) (text : Vec ℕ Global)
     → IsSession kept files s → Stay (files_saved k name s.world s.files) now
     → told ≡ record { reply = r; state = Some (state_in k s.world); woken = 0 } → r ≡ (save_answer k s.world).reply → text.items ≡ kept.text.items ++ told_line number told None
-    → IsSession (record { world = kept.world; version = kept.version; text = text }) now (run_line number (Save k name) s)
+    → IsNext Run number (Save k name) s (record { world = kept.world; version = kept.version; text = text }) now
 save-session kept number k name s files now told r text is stay t answer line = record {
-  keeps = record {
-    world = subst (λ (w : World). IsWorld kept.world w) (sym (world-save k s.world)) is.keeps.world;
-    version = is.keeps.version;
-    text = save-text number k s.world told r kept.text.items s.text text.items t answer is.keeps.text line;
+  next = run_line number (Save k name) s;
+  answers = (refl, refl);
+  session = record {
+    keeps = record {
+      world = subst (λ (w : World). IsWorld kept.world w) (sym (world-save k s.world)) is.keeps.world;
+      version = is.keeps.version;
+      text = save-text number k s.world told r kept.text.items s.text text.items t answer is.keeps.text line;
+    };
+    none_lost = is.none_lost;
+    shelf = stay;
   };
-  none_lost = is.none_lost;
-  shelf = stay;
+}
+
+-- the store failed
+pub save-stopped : (k : SubId) (name : List ℕ) (kept : Kept) (s : Session) (files now : Option Files) → IsSession kept files s → save_refusal k s.world ≡ None → OthersStay files now name
+    → IsStopped Run (Save k name) s kept.text.items now ShelfFault
+save-stopped k name kept s files now is none others = record {
+  last = record s { lost = Some name };
+  halts = (none, refl, refl);
+  written = is.keeps.text;
+  shelf = others-along s.files files now name is.shelf others;
 }
 
 -- ---- the end of the text

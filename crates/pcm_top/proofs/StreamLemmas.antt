@@ -1,18 +1,14 @@
 -- What of a script is still to come while its lines are read, and what the run has come to.
-use Rattle.std.proofs.Common.{◌≡◌, ◌==◌, ℕ, zero, suc, ◌+◌, ◌-◌, ◌≤◌, ◌<◌, Bool, true, false, ◌&&◌, List, [], ◌∷◌, ◌++◌, length, take, drop, None, Some, refl, sym, ◌∙◌, ap, subst, inl, inr, arith, nat_lt, append_assoc, append-nil, length-append, tests, rules, eq-eqb, Vec, Global}
-use Rattle.std.specs.Prelude.{◌≢◌, ◌⊎◌, if◌then◌else◌, IfSome}
+use Rattle.std.proofs.Common.{◌≡◌, ◌==◌, ℕ, zero, suc, ◌+◌, ◌<◌, Bool, true, false, ◌&&◌, List, [], ◌∷◌, ◌++◌, length, take, drop, None, Some, refl, sym, ◌∙◌, ap, subst, inl, inr, arith, nat_lt, append_assoc, append-nil, length-append, tests, rules, eq-eqb, Vec, Global}
+use Rattle.std.specs.Prelude.{◌⊎◌, if◌then◌else◌, IfSome}
 use Rattle.std.specs.declared.option.Option.{Option}
 use Rattle.std.specs.Io.KnownBytes.{Appends, Consumes, IsAtEnd}
 use Rattle.std.proofs.Math.Seq.{take-add, take-nil}
-use Rattle.std.proofs.lemmas.Bool.{cases_lt, ltb-true, ltb-false}
+use Rattle.std.proofs.lemmas.Bool.{ltb-true, ltb-false}
 use Rattle.std.proofs.lemmas.Bool.Decides.{nat_tests}
-use Rattle.std.proofs.lemmas.List.{take_at, drop_at, take_all, take-append-le, take-append-drop, length-take, nil_from_length}
+use Rattle.std.proofs.lemmas.List.{take_at, drop_at, take-append-drop, length-take, nil_from_length}
 use Rattle.pcm_io.specs.Lines.{Ahead, LineState, HasRead, IsDone, IsMore, IsNextLine, IsBroken, has_feed}
-use Rattle.pcm_io.specs.Pieces.{in_pieces}
 use Rattle.pcm_io.specs.Shelf.{Files, Stay}
-use Rattle.pcm_io.proofs.Taken.{appends_more, consumes_more}
-use Rattle.pcm_line.specs.declared.line.Line.{Line}
-use Rattle.pcm_line.specs.Grammar.{IsLine}
 use Rattle.pcm_top.specs.declared.command.Command.{Command}
 use Rattle.pcm_top.specs.declared.command.Command.TheVariants.{Run, Refine}
 use Rattle.pcm_top.specs.declared.end.End.{End}
@@ -21,7 +17,7 @@ use Rattle.pcm_top.specs.declared.session.Session.{Session as Kept}
 use Rattle.pcm_top.specs.CodeSession.{IsSession, HasPassed, HasEnded, HasLacked, behind, IsRan, IsRanToFault, IsRanShort}
 use Rattle.pcm_top.specs.Lines.{lines_of, is_last, whole_lines}
 use Rattle.pcm_top.specs.Output.{IsFront}
-use Rattle.pcm_top.specs.Script.{Passes, byte_limit, line_limit, limit_for, LineGives, Gives, FrontGives, Reaches, FrontReaches, AllAnswered, closing, script_front, whole_text}
+use Rattle.pcm_top.specs.Script.{Passes, byte_limit, line_limit, limit_for, LineGives, Gives, FrontGives, Reaches, FrontReaches, AllAnswered, closing, script_front}
 use Rattle.pcm_top.specs.Session.{Session, begin, AreFiles}
 use Rattle.pcm_top.proofs.LineLemmas.{lines-cut, lines-last, whole-cut, whole-none, not_last, some_line}
 use Rattle.pcm_top.proofs.ScriptLemmas.{few-open, passes-on, gives-passed, reaches-here, reaches-passed, text-of-stop}

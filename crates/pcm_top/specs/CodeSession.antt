@@ -1,21 +1,39 @@
 -- A session as the code keeps it, and the session that it stands for.
-use Rattle.std.specs.Prelude.{◌≡◌, ◌≢◌, ◌⊎◌, ℕ, ◌+◌, Bool, List, ◌∷◌, ◌++◌}
+use Rattle.std.specs.Prelude.{◌≡◌, ◌≢◌, ◌⊎◌, ℕ, ◌+◌, Bool, List, ◌∷◌, ◌++◌, ◌≤◌, ◌<◌, ◌^◌, if◌then◌else◌}
 use Rattle.std.specs.Io.KnownBytes.{Appends, Consumes}
 use Rattle.std.specs.declared.option.Option.{Option}
 use Rattle.std.specs.declared.option.Option.TheVariants.{Some, None}
+use Rattle.pcm_base.specs.declared.call.Event.{Event as CoreEvent}
+use Rattle.pcm_base.specs.declared.config.Config.{Config}
+use Rattle.pcm_base.specs.model.World.{World as ModelWorld}
 use Rattle.pcm_io.specs.Shelf.{Files, Stay}
 use Rattle.pcm_line.specs.declared.error.LineError.{LineError}
 use Rattle.pcm_line.specs.declared.line.Line.{Line}
-use Rattle.pcm_line.specs.Grammar.{IsLine}
 use Rattle.pcm_top.specs.declared.command.Command.{Command}
 use Rattle.pcm_top.specs.declared.end.End.{End}
-use Rattle.pcm_top.specs.declared.end.End.TheVariants.{Whole, BadLine, ShelfFault}
+use Rattle.pcm_top.specs.declared.end.End.TheVariants.{Whole, BadLine}
 use Rattle.pcm_top.specs.declared.session.Session.{Session as Kept}
-use Rattle.pcm_top.specs.OneStream.{IsWorld}
+use Rattle.pcm_world.specs.declared.world.World.{World}
+use Rattle.pcm_world.specs.Shown.{IsWorld, moved_in, result_in}
 use Rattle.pcm_top.specs.Output.{IsReached}
+use Rattle.pcm_top.specs.Run.{takes_by}
 use Rattle.pcm_top.specs.Script.{Answers, Halts, HasFault, Passes, limit_for, Gives, FrontGives, Reaches, FrontReaches, AllAnswered, script_front, whole_text}
 use Rattle.pcm_top.specs.Session.{Session, begin, AreFiles}
 use Rattle.pcm_top.specs.Lines.{whole_lines, is_last}
+
+-- the bytes of an event's line as the code's world has them behind the step: what its client has read, where it reads, or what its card took
+abbrev pub bytes_in : World → CoreEvent → ModelWorld → Bool → Option (List ℕ)
+bytes_in c e w reads = elim e.client [
+  | Some client ↦ if reads then Some (result_in c client) else if takes_by e w then Some (moved_in c e.sub) else None
+  | None ↦ if takes_by e w then Some (moved_in c e.sub) else None
+]
+
+-- a WAV file can have the channels and the rate
+pub record HasWavNumbers (c : Config) : Type 0 where
+  pub least : 1 ≤ c.channels
+  pub most : c.channels ≤ 8
+  pub some_rate : 1 ≤ c.rate
+  pub rate : c.rate < 2 ^ 32
 
 -- the world, the version and the text are those of the session
 pub record Keeps (k : Kept) (s : Session) : Type 0 where
@@ -36,9 +54,9 @@ pub record IsNext (c : Command) (number : ℕ) (line : Line) (s : Session) (k : 
   pub session : IsSession k files next
 
 -- a line ended the run
-pub record IsStopped (c : Command) (line : Line) (s : Session) (text : List ℕ) (files : Option Files) : Type 0 where
+pub record IsStopped (c : Command) (line : Line) (s : Session) (text : List ℕ) (files : Option Files) (ended : End) : Type 0 where
   pub last : Session
-  pub halts : Halts c line s last ShelfFault
+  pub halts : Halts c line s last ended
   pub written : text ≡ last.text
   pub shelf : AreFiles last files
 

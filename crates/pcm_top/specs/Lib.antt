@@ -1,6 +1,4 @@
 pub mod Lines
-pub mod Alone
-pub mod OneStream
 pub mod Session
 pub mod Refine
 pub mod Run

@@ -14,8 +14,9 @@ use Rattle.pcm_top.specs.declared.command.Command.{Command}
 use Rattle.pcm_top.specs.declared.command.Command.TheVariants.{Run, Refine}
 use Rattle.pcm_top.specs.declared.end.End.{End}
 use Rattle.pcm_top.specs.declared.end.End.TheVariants as end
-use Rattle.pcm_top.specs.Lines.{whole_lines}
-use Rattle.pcm_top.specs.Script.{byte_limit, line_limit, script_front, FrontGives, FrontReaches, AllAnswered, whole_text}
+use Rattle.pcm_top.specs.Lines.{lines_of, whole_lines}
+use Rattle.pcm_top.specs.Run.{wav_limit}
+use Rattle.pcm_top.specs.Script.{byte_limit, line_limit, script_front, FrontGives, FrontReaches, AllAnswered, IsKnown, whole_text}
 use Rattle.pcm_top.specs.Session.{Session, begin, AreFiles}
 
 -- the one text begins with the other
@@ -38,6 +39,9 @@ status_of (end.BadLine line fault) = status.BadLine line fault
 status_of end.ScriptLines = status.Limit which.ScriptLines (line_limit + 1)
 status_of end.ScriptBytes = status.Limit which.ScriptBytes (byte_limit + 1)
 status_of end.ShelfFault = status.ShelfFault
+status_of (end.Missing name) = status.Missing name
+status_of end.WavBytes = status.Limit which.WavBytes (wav_limit + 1)
+status_of (end.BadWav name e) = status.BadWav name e
 
 -- the outside, or want of memory, cut it short
 abbrev pub was_cut : Status → Bool
@@ -46,16 +50,15 @@ was_cut status.WriteFault = true
 was_cut status.Memory = true
 was_cut _ = false
 
--- the limits of a script, with the value one above each
+-- the limits of a script and of a file, with the value one above each
 abbrev pub is_script_limit : Which → ℕ → Bool
 is_script_limit which.ScriptLines n = n == line_limit + 1
 is_script_limit which.ScriptBytes n = n == byte_limit + 1
+is_script_limit which.WavBytes n = n == wav_limit + 1
 is_script_limit _ n = false
 
 -- the statuses that the program gives
 abbrev pub is_given : Status → Bool
-is_given (status.Missing name) = false
-is_given (status.BadWav name error) = false
 is_given (status.Refused errno) = false
 is_given (status.Limit w n) = is_script_limit w n
 is_given _ = true
@@ -76,7 +79,7 @@ pub record IsReached (c : Command) (script : List ℕ) (files files_now : Option
   pub stored : Stay last.files files_now
   pub front : IsFront text last.text
 
--- The script was executed up to its end: a front of its text is this one, and the files are those that it leaves. A store failed there only where the count of the shelf's faults rose.
+-- The script was executed up to its end: a front of its text is this one, and the files are those that it leaves. It ended by a fault of the shelf only where the count of those rose.
 pub record IsPart (c : Command) (script : List ℕ) (files files_now : Option Files) (faults faults_now : ℕ) (text : List ℕ) : Type 0 where
   pub last : Session
   pub ended : End
@@ -85,10 +88,10 @@ pub record IsPart (c : Command) (script : List ℕ) (files files_now : Option Fi
   pub failed : ended ≡ end.ShelfFault → Rose faults faults_now
   pub front : IsFront text (whole_text c ended last)
 
--- the text is a front of the whole text of the script, were no store to fail
+-- the text is a front of the whole text of the script, were no store or load to fail
 abbrev pub IsFrontOfOutput : Command → List ℕ → Option Files → List ℕ → Type 0
 IsFrontOfOutput c script files text =
-    (last : Session) (ended : End) → ended ≢ end.ShelfFault → FrontGives c (script_front script) (begin files) last ended → IsFront text (whole_text c ended last)
+    IsKnown files (lines_of (script_front script)) → (last : Session) (ended : End) → ended ≢ end.ShelfFault → FrontGives c (script_front script) (begin files) last ended → IsFront text (whole_text c ended last)
 
 -- A front of the output was written, and the files are those that a front of the lines leaves, in which all lines are whose text was written.
 pub record IsFrontRun (c : Command) (script : List ℕ) (files files_now : Option Files) (faults faults_now : ℕ) (before now : Option (List ℕ)) : Type 0 where

@@ -1,21 +1,25 @@
 -- What the lines of a script lead to, and how they end. This project's own.
-use Rattle.std.specs.Prelude.{◌≡◌, ◌⊎◌, ◌≤◌, ⊤, ℕ, ◌+◌, ◌==◌, Bool, true, false, List, [], ◌∷◌, ◌++◌, take, nat_lt, if◌then◌else◌, length}
+use Rattle.std.specs.Prelude.{◌≡◌, ◌⊎◌, ◌≤◌, ◌<◌, ⊤, ℕ, ◌+◌, ◌==◌, Bool, true, false, List, [], ◌∷◌, ◌++◌, take, nat_lt, if◌then◌else◌, length}
 use Rattle.std.specs.declared.option.Option.{Option}
 use Rattle.std.specs.declared.option.Option.TheVariants.{Some, None}
+use Rattle.std.specs.List.{AllByRecursion}
+use Rattle.pcm_io.specs.Shelf.{Files}
 use Rattle.pcm_line.specs.declared.error.LineError.{LineError}
 use Rattle.pcm_line.specs.declared.error.LineError.TheVariants.{Word, Number}
 use Rattle.pcm_line.specs.declared.line.Line.{Line}
-use Rattle.pcm_line.specs.declared.line.Line.TheVariants.{Space, Save, Version}
+use Rattle.pcm_line.specs.declared.line.Line.TheVariants.{Space, Feed, Save, Version}
 use Rattle.pcm_line.specs.Grammar.{IsLine, LineFault}
 use Rattle.pcm_line.specs.Skipped.{IsSkipped}
 use Rattle.pcm_top.specs.declared.command.Command.{Command}
 use Rattle.pcm_top.specs.declared.command.Command.TheVariants.{Run, Refine}
 use Rattle.pcm_top.specs.declared.end.End.{End}
-use Rattle.pcm_top.specs.declared.end.End.TheVariants.{Whole, BadLine, ScriptLines, ScriptBytes, ShelfFault}
+use Rattle.pcm_top.specs.declared.end.End.TheVariants.{Whole, BadLine, ScriptLines, ScriptBytes, ShelfFault, Missing, WavBytes, BadWav}
 use Rattle.pcm_top.specs.Lines.{lines_of, is_last}
 use Rattle.pcm_top.specs.Refine.{IsAnswer}
-use Rattle.pcm_top.specs.Run.{is_built, is_built_at, run_line, save_refusal, end_lines}
-use Rattle.pcm_top.specs.Session.{Session}
+use Rattle.pcm_top.specs.Run.{Finds, LineLeads, feed_refusal, is_built_at, save_refusal, end_lines, wav_limit}
+use Rattle.pcm_top.specs.Session.{Session, begin}
+use Rattle.wav_file.specs.Faults.{WavFault}
+use Rattle.wav_file.specs.declared.wav.WavError.{WavError}
 
 -- the most lines and the most bytes of a script
 abbrev pub line_limit : ℕ
@@ -35,13 +39,24 @@ has Refine number line = is_space line
 
 -- what the line of this number leads to from one session
 abbrev pub Answers : Command → ℕ → Line → Session → Session → Type 0
-Answers Run number line s t = (is_built_at number line ≡ true) × (t ≡ run_line number line s)
+Answers Run number line s t = (is_built_at number line ≡ true) × LineLeads number line s t
 Answers Refine number (Space model space) s t = (answer : List ℕ) × IsAnswer model space answer × (t ≡ record s { text = s.text ++ answer })
 Answers Refine number _ s t = ⊥
 
--- the line ends the run instead: its file cannot be stored
+-- how a feed ends the run that finds this under the name: nothing, a file that is too long, or one that is no WAV file
+abbrev pub IsFileEnd : List ℕ → Option (List ℕ) → End → Type 0
+IsFileEnd name None ended = ended ≡ Missing name
+IsFileEnd name (Some bytes) ended =
+    ((wav_limit < length bytes) × (ended ≡ WavBytes)) ⊎ ((length bytes ≤ wav_limit) × (e : WavError) × WavFault bytes e × (ended ≡ BadWav name e))
+
+-- it ends by what it finds, or by a fault of the shelf
+abbrev pub IsFeedEnd : Option Files → List ℕ → End → Type 0
+IsFeedEnd files name ended = (ended ≡ ShelfFault) ⊎ ((found : Option (List ℕ)) × Finds files name found × IsFileEnd name found ended)
+
+-- the line ends the run instead: its file cannot be stored, or is none that can be fed
 abbrev pub Halts : Command → Line → Session → Session → End → Type 0
-Halts Run (Save k name) s t ended = (is_built (Save k name) ≡ true) × (save_refusal k s.world ≡ None) × (t ≡ record s { lost = Some name }) × (ended ≡ ShelfFault)
+Halts Run (Save k name) s t ended = (save_refusal k s.world ≡ None) × (t ≡ record s { lost = Some name }) × (ended ≡ ShelfFault)
+Halts Run (Feed k name) s t ended = (feed_refusal k s.world ≡ None) × (t ≡ s) × IsFeedEnd s.files name ended
 Halts _ _ s t ended = ⊥
 
 -- what is wrong in a line that the command does not have in the place of this number: its first word, or in line 1 of `run` the number of a version
@@ -74,8 +89,9 @@ pub record IsBad (c : Command) (number : ℕ) (s last : Session) (ended : End) (
   pub same : last ≡ s
   pub here : ended ≡ BadLine number fault
 
--- the line ends the run
+-- the line is not skipped, and ends the run
 pub record IsHalted (c : Command) (s last : Session) (ended : End) (bytes : List ℕ) : Type 0 where
+  pub speaks : ¬ IsSkipped s.version bytes
   pub line : Line
   pub says : IsLine bytes line
   pub halts : Halts c line s last ended
@@ -116,6 +132,16 @@ abbrev pub AllAnswered : Command → ℕ → Session → List (List ℕ) → Ses
 AllAnswered c count s [] last = last ≡ s
 AllAnswered c count s (bytes ∷ lines) last = Passes c (count + 1) (λ t. AllAnswered c (count + 1) t lines last) s bytes
 
+-- a line that is no feed
+abbrev pub is_feed : Line → Bool
+is_feed (Feed k name) = true
+is_feed _ = false
+
+-- the files are told, or none of the lines is a feed: so what the lines lead to is one
+abbrev pub IsKnown : Option Files → List (List ℕ) → Type 0
+IsKnown (Some files) lines = ⊤
+IsKnown None lines = AllByRecursion (λ bytes. (line : Line) → IsLine bytes line → is_feed line ≡ false) lines
+
 -- the text that a run leaves: where all lines were executed, a line for each substream stands behind it
 abbrev pub closing : Command → End → Session → List ℕ
 closing Run Whole s = end_lines s.world
@@ -143,8 +169,16 @@ AllBelong c count version [] = ⊤
 AllBelong c count version (bytes ∷ lines) =
     (IsSkipped version bytes × AllBelong c (count + 1) version lines) ⊎ IsOwn c (count + 1) version (λ v. AllBelong c (count + 1) v lines) bytes
 
--- the script keeps the limits, and each of its lines is skipped or one of the command
-pub record IsScript (c : Command) (script : List ℕ) : Type 0 where
+-- the end is that of a file that cannot be fed
+abbrev pub is_file_end : End → Bool
+is_file_end (Missing name) = true
+is_file_end WavBytes = true
+is_file_end (BadWav name e) = true
+is_file_end _ = false
+
+-- The script keeps the limits, each of its lines is skipped or one of the command, and over these files no file that it loads is missing, too long or no WAV file.
+pub record IsScript (c : Command) (script : List ℕ) (files : Option Files) : Type 0 where
   pub bytes : length script ≤ byte_limit
   pub lines : length (lines_of script) ≤ line_limit
   pub belong : AllBelong c 0 1 (lines_of script)
+  pub loads : (last : Session) (ended : End) → FrontGives c (script_front script) (begin files) last ended → is_file_end ended ≡ false

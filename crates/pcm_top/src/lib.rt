@@ -1,15 +1,19 @@
 //! The program's call: a command's words and a script in, the command's answers and stored files out, and a status that
-//! names what cut it short. `run` executes a script over one substream, `refine` answers space lines.
+//! names what cut it short. `run` executes a script over sixteen substreams, `refine` answers space lines.
 //!
-//! It stands on `pcm_line` for the lines, `pcm_stream` for a substream over an emulated card of `card_emul`, `state_table`
-//! for what a state permits, `wav_file` for the files that a script stores, `hw_params` for the least box, `pcm_text` for
-//! the transcript and the statuses, and `pcm_io` for the outside. Its source is this project's own; what each event does is
+//! It stands on `pcm_line` for the lines, `pcm_world` for the steps of a world of substreams (`pcm_stream`) over emulated cards
+//! of `card_emul`, `wav_file` for the files that a script stores and feeds, `loop_card` for what is still to be carried,
+//! `hw_params` for the least box, `pcm_text` for the transcript and the statuses, and `pcm_io` for the outside. Its source is this project's own; what each event does is
 //! that of the kernel's `pcm_native.c` and `pcm_lib.c`.
 #![tactic(auto)]
 
 mod built;
+mod carry;
 mod command;
 mod end;
+mod event;
+mod feed;
+mod give;
 mod laws;
 mod refine;
 mod save;
@@ -17,8 +21,10 @@ mod script;
 mod session;
 #[cfg(test)]
 mod tests;
+mod told;
 mod top;
-mod world;
+#[cfg(test)]
+mod worked_tests;
 
 pub use command::Command;
 pub use end::End;

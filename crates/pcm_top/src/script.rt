@@ -9,15 +9,15 @@ ghost use Rattle.pcm_line.specs.Grammar.{IsLine, LineFault};
 ghost use Rattle.pcm_line.specs.declared.error.LineError.TheVariants as line_error;
 ghost use Rattle.pcm_top.specs.declared.end.Cut.TheVariants as cut_by;
 ghost use Rattle.pcm_top.specs.CodeSession.{IsSession, HasPassed, HasEnded, HasLacked, IsRan, IsRanToFault, IsRanShort, IsNoLine};
-ghost use Rattle.pcm_top.specs.OneStream.{IsWorld};
 ghost use Rattle.pcm_top.specs.Script.{has, misplaced as misplaced_of};
 ghost use Rattle.pcm_top.specs.Session.{Session as Come, begin};
+ghost use Rattle.pcm_world.specs.Shown.{IsWorld};
 
 use crate::built::is_built_at;
 use crate::command::Command;
-use crate::end::{Cut, End};
+use crate::end::{Cut, End, Unanswered};
 use crate::session::{Session, answer_line, close};
-use pcm_io::{Lines, ReadEnd, Shelf, ShelfError, Sink, Source, write_pieces};
+use pcm_io::{Lines, ReadEnd, Shelf, Sink, Source, write_pieces};
 use pcm_line::{Line, LineError, is_skipped, read_line};
 use std::alloc::{AllocError, Global};
 
@@ -27,8 +27,7 @@ pub const LINE_LIMIT: u64 = 1_048_576;
 /// The most bytes of a script.
 pub const BYTE_LIMIT: usize = 67_108_864;
 
-// Whether the command has the line in the place of this number. `run` has the lines of the one playback substream s0 that
-// are built.
+// Whether the command has the line in the place of this number.
 fn has_line(command: Command, number: u64, line: &Line) -> bool
     ensures { result ≡ has command number line.now }
 {
@@ -105,8 +104,8 @@ fn answer_bytes<F: Shelf>(
     };
     match answer_line(alloc, command, count + 1, line, session, shelf) {
         Ok(()) => Ok(None),
-        Err(ShelfError::Failed) => Ok(Some(End::ShelfFault)),
-        Err(ShelfError::Memory) => Err(AllocError),
+        Err(Unanswered::Ended(ended)) => Ok(Some(ended)),
+        Err(Unanswered::Memory) => Err(AllocError),
     }
 }
 

@@ -1,26 +1,34 @@
 // What a script has come to, and what a line makes of it.
-ghost use Rattle.std.specs.Prelude.{◌≡◌, ◌≢◌, ◌++◌, true, None, Some, IfOk, OnOk, IsErrOf, option_copied};
+ghost use Rattle.std.specs.Prelude.{◌≡◌, ◌≢◌, ◌≤◌, ◌⊎◌, ◌++◌, true, IfErr, IfOk, OnOk};
 ghost use Rattle.std.specs.declared.option.Option.{Option};
-ghost use Rattle.pcm_base.specs.model.World.{World as ModelWorld, state_in};
-ghost use Rattle.pcm_io.specs.Shelf.{Files, Stay, OthersStay, HasShelfCause};
-ghost use Rattle.pcm_io.specs.declared.shelf.ShelfError.TheVariants.{Failed, Memory};
+ghost use Rattle.pcm_base.specs.model.World.{World as ModelWorld};
+ghost use Rattle.pcm_base.specs.Causes.{Rose};
+ghost use Rattle.pcm_io.specs.Shelf.{Files, Stay, OthersStay};
 ghost use Rattle.pcm_line.specs.declared.line.Line.TheVariants as line_of;
+ghost use Rattle.pcm_line.specs.Sayable.{IsSayableEvent, Sayable};
 ghost use Rattle.pcm_top.specs.declared.command.Command.TheVariants.{Run};
-ghost use Rattle.pcm_top.specs.declared.end.End.TheVariants.{Whole};
+ghost use Rattle.pcm_top.specs.declared.end.End.{End as EndOf};
+ghost use Rattle.pcm_top.specs.declared.end.End.TheVariants.{ShelfFault, Whole};
+ghost use Rattle.pcm_top.specs.declared.end.Unanswered.TheVariants.{Ended, Memory};
 ghost use Rattle.pcm_top.specs.CodeSession.{IsSession, IsNext, IsStopped, IsCut, Keeps};
-ghost use Rattle.pcm_top.specs.OneStream.{IsWorld, is_built_event, bytes_shown, moved_in};
-ghost use Rattle.pcm_top.specs.Run.{is_built, is_built_at, run_line as run_line_of, files_saved, save_answer, save_refusal, end_line_of, end_lines};
+ghost use Rattle.pcm_top.specs.Run.{is_built_at, run_line as run_line_of, files_saved, save_answer, save_refusal, end_line_of, end_lines};
 ghost use Rattle.pcm_top.specs.Script.{closing, has};
 ghost use Rattle.pcm_top.specs.Session.{Session as Come, begin};
+ghost use Rattle.pcm_world.specs.Shown.{IsWorld};
 
+use crate::carry::carry_line;
 use crate::command::Command;
+use crate::end::{End, Unanswered};
+use crate::event::{is_reading, shown, tells_read};
+use crate::feed::feed_line;
 use crate::refine::push_answer;
 use crate::save::file_to_save;
-use crate::world::World;
-use pcm_base::{Bytes, Call, Dir, Event, Model, Name, Reply, State, SubId, Told};
+use crate::told::told_of;
+use pcm_base::{Bytes, Dir, Event, Model, Name, Reply, SubId, Told};
 use pcm_io::{Shelf, ShelfError};
 use pcm_line::Line;
 use pcm_text::{end_text, push_told};
+use pcm_world::World;
 use std::alloc::{AllocError, Global};
 
 /// The most substreams.
@@ -44,28 +52,6 @@ impl Session {
             version: 1,
             text: Vec::new(alloc),
         }
-    }
-}
-
-// The state of a substream, CLOSED where it is not declared.
-fn state_of(world: &World, sub: SubId) -> State
-    ensures { (w : ModelWorld) → IsWorld world.now w → result ≡ state_in sub w }
-{
-    match world.substream(sub) {
-        None => State::Closed,
-        Some(stream) => stream.state(),
-    }
-}
-
-// An answer that names a substream and marks nobody awake.
-fn told_of(world: &World, sub: SubId, reply: Reply) -> Told
-    ensures same { result.reply ≡ reply }
-    ensures told { (w : ModelWorld) → IsWorld world.now w → result ≡ record { reply = reply; state = Some (state_in sub w); woken = 0 } }
-{
-    Told {
-        reply,
-        state: Some(state_of(world, sub)),
-        woken: 0,
     }
 }
 
@@ -102,23 +88,15 @@ fn card_line(
     dir: Dir,
     session: &mut Session,
 ) -> Result<(), AllocError>
-    requires { is_built (line_of.Card sub model dir) ≡ true }
+    requires { sub.0 ≤ 15 }
     ensures { (s : Come) → Keeps session.old s → OnOk result (Keeps session.new (run_line_of number (line_of.Card sub model dir) s)) }
 {
     let reply = session.world.declare(sub, model, dir);
+    if matches!(reply, Reply::Memory) {
+        return Err(AllocError);
+    }
     let told = told_of(&session.world, sub, reply);
     push_told(&mut session.text, number, &told, None)
-}
-
-// The bytes that the card took, where a movement tells them.
-fn taken<'a>(world: &'a World, event: &Event) -> Option<&'a [u8]>
-    requires { is_built_event event.now ≡ true }
-    ensures { option_copied result ≡ bytes_shown event.now.call (moved_in world.now) }
-{
-    match event.call {
-        Call::MoveBy(_) => Some(world.moved(event.sub)),
-        _ => None,
-    }
 }
 
 // An event, told in the line of this number.
@@ -128,40 +106,46 @@ fn event_line(
     bytes: &Bytes,
     session: &mut Session,
 ) -> Result<(), AllocError>
-    requires { is_built_event event.now ≡ true }
+    requires { IsSayableEvent event.now bytes.now }
     ensures { (s : Come) → Keeps session.old s → OnOk result (Keeps session.new (run_line_of number (line_of.Event event.now bytes.now) s)) }
 {
+    let reads = is_reading(&session.world, event);
     let told = session.world.step(event, bytes.as_slice());
     if matches!(told.reply, Reply::Memory) {
         return Err(AllocError);
     }
-    let taken = taken(&session.world, event);
-    push_told(&mut session.text, number, &told, taken)
+    let reads = tells_read(reads, &told.reply);
+    let bytes = shown(&session.world, event, reads);
+    push_told(&mut session.text, number, &told, bytes)
 }
 
-// The frames that the card took go into a file of the shelf, unless that is refused.
+// What the card took goes into a file of the shelf.
 fn save_taken<F: Shelf>(
     alloc: Global,
     sub: SubId,
     name: &Name,
     world: &World,
     shelf: &mut F,
-) -> Result<Reply, ShelfError>
-    requires { (w : ModelWorld) × IsWorld world.now w }
+) -> Result<Reply, Unanswered>
+    requires number { sub.0 ≤ 15 }
+    requires stands { (w : ModelWorld) × IsWorld world.now w }
     ensures answered { IfOk result (λ r. r ≢ Reply.Memory) }
     ensures told { (w : ModelWorld) → IsWorld world.now w → IfOk result (λ r. r ≡ (save_answer sub w).reply) }
     ensures stored { (w : ModelWorld) (files : Option Files) → IsWorld world.now w → Stay files (F.files shelf.old) → OnOk result (Stay (files_saved sub name.now w files) (F.files shelf.new)) }
-    ensures allowed { (w : ModelWorld) → IsWorld world.now w → IsErrOf result Failed → save_refusal sub w ≡ None }
-    ensures failed { IsErrOf result Failed → OthersStay (F.files shelf.old) (F.files shelf.new) name.now }
-    ensures memory { IsErrOf result Memory → Stay (F.files shelf.old) (F.files shelf.new) }
-    ensures cause { HasShelfCause (F.faults shelf.old) (F.faults shelf.new) result }
+    ensures ended { IfErr result (λ e. (e ≡ Ended ShelfFault) ⊎ (e ≡ Memory)) }
+    ensures allowed { (w : ModelWorld) → IsWorld world.now w → result ≡ Err (Ended ShelfFault) → save_refusal sub w ≡ None }
+    ensures failed { result ≡ Err (Ended ShelfFault) → OthersStay (F.files shelf.old) (F.files shelf.new) name.now }
+    ensures memory { result ≡ Err Memory → Stay (F.files shelf.old) (F.files shelf.new) }
+    ensures rose { result ≡ Err (Ended ShelfFault) → Rose (F.faults shelf.old) (F.faults shelf.new) }
+    ensures calm { result ≢ Err (Ended ShelfFault) → F.faults shelf.new ≡ F.faults shelf.old }
 {
     match file_to_save(alloc, world, sub)? {
-        Ok(file) => {
-            shelf.store(name, &file)?;
-            Ok(Reply::Ok)
-        }
         Err(e) => Ok(Reply::Err(e)),
+        Ok(file) => match shelf.store(name, &file) {
+            Ok(()) => Ok(Reply::Ok),
+            Err(ShelfError::Failed) => Err(Unanswered::Ended(End::ShelfFault)),
+            Err(ShelfError::Memory) => Err(Unanswered::Memory),
+        },
     }
 }
 
@@ -173,13 +157,14 @@ fn save_line<F: Shelf>(
     name: &Name,
     session: &mut Session,
     shelf: &mut F,
-) -> Result<(), ShelfError>
-    requires built { is_built (line_of.Save sub name.now) ≡ true }
+) -> Result<(), Unanswered>
+    requires number { sub.0 ≤ 15 }
     requires stands { (w : ModelWorld) × IsWorld session.old.world w }
-    ensures ok { (s : Come) → IsSession session.old (F.files shelf.old) s → OnOk result (IsSession session.new (F.files shelf.new) (run_line_of number (line_of.Save sub name.now) s)) }
-    ensures failed { (s : Come) → IsSession session.old (F.files shelf.old) s → IsErrOf result Failed → IsStopped Run (line_of.Save sub name.now) s session.new.text.items (F.files shelf.new) }
-    ensures memory { (s : Come) → IsSession session.old (F.files shelf.old) s → IsErrOf result Memory → IsCut Run number (line_of.Save sub name.now) s (F.files shelf.new) }
-    ensures cause { HasShelfCause (F.faults shelf.old) (F.faults shelf.new) result }
+    ensures ok { (s : Come) → IsSession session.old (F.files shelf.old) s → OnOk result (IsNext Run number (line_of.Save sub name.now) s session.new (F.files shelf.new)) }
+    ensures ended { (s : Come) (e : EndOf) → IsSession session.old (F.files shelf.old) s → result ≡ Err (Ended e) → IsStopped Run (line_of.Save sub name.now) s session.new.text.items (F.files shelf.new) e }
+    ensures memory { (s : Come) → IsSession session.old (F.files shelf.old) s → result ≡ Err Memory → IsCut Run number (line_of.Save sub name.now) s (F.files shelf.new) }
+    ensures rose { result ≡ Err (Ended ShelfFault) → Rose (F.faults shelf.old) (F.faults shelf.new) }
+    ensures calm { result ≢ Err (Ended ShelfFault) → F.faults shelf.new ≡ F.faults shelf.old }
 {
     let reply = save_taken(alloc, sub, name, &session.world, shelf)?;
     let told = told_of(&session.world, sub, reply);
@@ -194,26 +179,30 @@ fn run_line<F: Shelf>(
     line: &Line,
     session: &mut Session,
     shelf: &mut F,
-) -> Result<(), ShelfError>
+) -> Result<(), Unanswered>
     requires built { is_built_at number line.now ≡ true }
+    requires says { Sayable line.now }
     requires stands { (w : ModelWorld) × IsWorld session.old.world w }
-    ensures ok { (s : Come) → IsSession session.old (F.files shelf.old) s → OnOk result (IsSession session.new (F.files shelf.new) (run_line_of number line.now s)) }
-    ensures failed { (s : Come) → IsSession session.old (F.files shelf.old) s → IsErrOf result Failed → IsStopped Run line.now s session.new.text.items (F.files shelf.new) }
-    ensures memory { (s : Come) → IsSession session.old (F.files shelf.old) s → IsErrOf result Memory → IsCut Run number line.now s (F.files shelf.new) }
-    ensures cause { HasShelfCause (F.faults shelf.old) (F.faults shelf.new) result }
+    ensures ok { (s : Come) → IsSession session.old (F.files shelf.old) s → OnOk result (IsNext Run number line.now s session.new (F.files shelf.new)) }
+    ensures ended { (s : Come) (e : EndOf) → IsSession session.old (F.files shelf.old) s → result ≡ Err (Ended e) → IsStopped Run line.now s session.new.text.items (F.files shelf.new) e }
+    ensures memory { (s : Come) → IsSession session.old (F.files shelf.old) s → result ≡ Err Memory → IsCut Run number line.now s (F.files shelf.new) }
+    ensures rose { result ≡ Err (Ended ShelfFault) → Rose (F.faults shelf.old) (F.faults shelf.new) }
+    ensures calm { result ≢ Err (Ended ShelfFault) → F.faults shelf.new ≡ F.faults shelf.old }
 {
     match line {
         Line::Version(n) => version_line(number, *n, session)?,
         Line::LongMax(n) => long_line(number, *n, session)?,
         Line::Card(sub, model, dir) => card_line(number, *sub, *model, *dir, session)?,
         Line::Event(event, bytes) => event_line(number, event, bytes, session)?,
-        Line::Save(sub, name) => save_line(alloc, number, *sub, name, session, shelf)?,
+        Line::Carry(from, to) => carry_line(alloc, number, *from, *to, session)?,
+        Line::Feed(sub, name) => return feed_line(alloc, number, *sub, name, session, shelf),
+        Line::Save(sub, name) => return save_line(alloc, number, *sub, name, session, shelf),
         _ => unreachable!(),
     }
     Ok(())
 }
 
-/// Executes a line of the command. `Failed` where its file was not stored, and then it has no text. This project's own.
+/// Executes a line of the command. Where it ends the script it has no text. This project's own.
 pub fn answer_line<F: Shelf>(
     alloc: Global,
     command: Command,
@@ -221,14 +210,16 @@ pub fn answer_line<F: Shelf>(
     line: &Line,
     session: &mut Session,
     shelf: &mut F,
-) -> Result<(), ShelfError>
+) -> Result<(), Unanswered>
     requires has { has command number line.now ≡ true }
+    requires says { Sayable line.now }
     // The world stands for some world of the model, as that of each session does: a save asks it.
     requires stands { (w : ModelWorld) × IsWorld session.old.world w }
     ensures ok { (s : Come) → IsSession session.old (F.files shelf.old) s → OnOk result (IsNext command number line.now s session.new (F.files shelf.new)) }
-    ensures failed { (s : Come) → IsSession session.old (F.files shelf.old) s → IsErrOf result Failed → IsStopped command line.now s session.new.text.items (F.files shelf.new) }
-    ensures memory { (s : Come) → IsSession session.old (F.files shelf.old) s → IsErrOf result Memory → IsCut command number line.now s (F.files shelf.new) }
-    ensures cause { HasShelfCause (F.faults shelf.old) (F.faults shelf.new) result }
+    ensures ended { (s : Come) (e : EndOf) → IsSession session.old (F.files shelf.old) s → result ≡ Err (Ended e) → IsStopped command line.now s session.new.text.items (F.files shelf.new) e }
+    ensures memory { (s : Come) → IsSession session.old (F.files shelf.old) s → result ≡ Err Memory → IsCut command number line.now s (F.files shelf.new) }
+    ensures rose { result ≡ Err (Ended ShelfFault) → Rose (F.faults shelf.old) (F.faults shelf.new) }
+    ensures calm { result ≢ Err (Ended ShelfFault) → F.faults shelf.new ≡ F.faults shelf.old }
 {
     match (command, line) {
         (Command::Run, _) => run_line(alloc, number, line, session, shelf),
@@ -242,11 +233,12 @@ pub fn answer_line<F: Shelf>(
 
 // The line of a substream behind the last line, none where it is not declared.
 fn push_end(alloc: Global, session: &mut Session, sub: SubId) -> Result<(), AllocError>
+    requires { sub.0 ≤ 15 }
     ensures world { session.new.world ≡ session.old.world }
     ensures line { (w : ModelWorld) → IsWorld session.old.world w → OnOk result (session.new.text.items ≡ session.old.text.items ++ end_line_of w sub.0) }
 {
     if let Some(stream) = session.world.substream(sub) {
-        let line = end_text(alloc, sub, &stream.page(), stream.moved_total())?;
+        let line = end_text(alloc, sub, &stream.page(), session.world.moved_total(sub))?;
         session.text.extend_from_slice(&line)?;
     }
     Ok(())

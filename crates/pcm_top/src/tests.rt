@@ -91,14 +91,24 @@ fn is_text(out: &[u8], first: &str, second: &str) -> bool {
     out.strip_prefix(first.as_bytes()) == Some(second.as_bytes())
 }
 
-// The transcript of a script, and the line that tells why it ended.
-fn told(alloc: Global, word: &str, script: &str) -> Result<(Vec<u8>, String), Fail> {
+// The transcript of a script over the file `in.wav`, where it is not empty, and the line that tells why it ended.
+pub(crate) fn told(
+    rt: &impl Abort,
+    alloc: Global,
+    word: &str,
+    script: &str,
+    file: &[u8],
+) -> Result<(Vec<u8>, String), Fail> {
     let mut words = Vec::new(alloc);
     words.push(String::from_str(alloc, word)?)?;
     let none = Vec::new(alloc);
     let mut source = MemSource::new(script.as_bytes().to_vec(alloc)?, none, 64);
     let mut out = MemSink::new(alloc, Vec::new(alloc));
     let mut shelf = MemShelf::new(alloc, Vec::new(alloc));
+    let name = Name::of(b"in.wav").expect(rt, "a name");
+    if !file.is_empty() {
+        assert!(rt; shelf.store(&name, file).is_ok());
+    }
     let status = pcm_main(alloc, &words, &mut source, &mut out, &mut shelf);
     Ok((out.bytes().to_vec(alloc)?, fault_text(alloc, &status)?))
 }
@@ -226,12 +236,9 @@ fn a_script_may_begin_otherwise(rt: HostRuntime) -> Result<(), Fail> {
             0,
             "1 ok CLOSED\n2 ok OPEN\n3 ok SETUP\n4 ok PREPARED\n5 frames 4 RUNNING\n6 moved 3 010203 RUNNING\n7 ok RUNNING\n8 ptrs hw 3 appl 4 avail 3 RUNNING\nend s0 RUNNING hw 3 appl 4 moved 3\n",
         ),
-        // Lines with a fault, and lines that are not built.
+        // Lines with a fault, and lines of other commands.
         ("card s0 basic p\nopen c0\n", 2, "1 ok CLOSED\n"),
         ("card s0 basic p\n\n", 2, "1 ok CLOSED\n"),
-        ("card s0 basic p\ngive s0 01\n", 2, "1 ok CLOSED\n"),
-        ("card s0 basic p\ncard s1 basic p\n", 2, "1 ok CLOSED\n"),
-        ("card s0 basic c\n", 2, ""),
         ("space basic 8 4 2 2 1 200000 1 65536 2 32 4 65536\n", 2, ""),
     ] {
         let ran = run(&rt, rt.alloc(), &script("", lines))?;
@@ -278,8 +285,7 @@ fn a_script_has_a_version(rt: HostRuntime) -> Result<(), Fail> {
         ),
         ("refine", "version 2\n", "", "bad line 1: word at 0"),
         ("refine", "\n", "", "bad line 1: word at 0"),
-        // Forms of other programs, and of a world of more substreams.
-        ("run", "carry s0 s1\n", "", "bad line 1: word at 0"),
+        // Forms of other programs.
         ("run", "carry s0\n", "", "bad line 1: short"),
         ("run", "wire s0 s1\n", "", "bad line 1: word at 0"),
         ("run", "beat s0 1 1\n", "", "bad line 1: word at 0"),
@@ -287,7 +293,7 @@ fn a_script_has_a_version(rt: HostRuntime) -> Result<(), Fail> {
         ("run", "threads\n", "", "bad line 1: word at 0"),
         ("run", "join\n", "", "bad line 1: word at 0"),
     ] {
-        let (out, text) = told(rt.alloc(), word, lines)?;
+        let (out, text) = told(&rt, rt.alloc(), word, lines, NO_FILE)?;
         assert_eq!(rt; out.as_slice(), transcript.as_bytes());
         assert_eq!(rt; text.as_str(), fault);
     }
@@ -309,6 +315,9 @@ fn samples_of_three_bytes_in_four_are_saved(rt: HostRuntime) -> Result<(), Fail>
     assert_eq!(rt; file.as_slice(), WIDE);
     Ok(())
 }
+
+/// No file stands beside the script.
+pub(crate) const NO_FILE: &[u8] = b"";
 
 // Nine times three frames are played, and the pointers go round the boundary of 16.
 #[test]
@@ -365,6 +374,26 @@ fn a_status_names_what_failed(rt: HostRuntime) -> Result<(), Fail> {
     }
     let lines = first_lines(&whole.out, 8);
     assert!(rt; is_text(lines, OPENED_TOLD, FIRST_TOLD));
+    Ok(())
+}
+
+// A file that is fed is no WAV file, or the shelf fails at its load.
+#[test]
+fn a_feed_names_what_failed(rt: HostRuntime) -> Result<(), Fail> {
+    let alloc = rt.alloc();
+    let opened =
+        "card s0 basic c\nopen c0 s0\nhw c0 s0 RW_INTERLEAVED U8 1 8000 2 2\nfeed s0 other.wav\n";
+    for (shelf, status) in [(0, 7), (2, 5)] {
+        let mut calls = script("", opened);
+        calls.shelf = shelf;
+        let ran = run(&rt, alloc, &calls)?;
+        assert_eq!(rt; ran.status, status);
+        assert!(rt; ran.stays);
+        assert_eq!(rt;
+            ran.out.as_slice(),
+            "1 ok CLOSED\n2 ok OPEN\n3 ok SETUP\n".as_bytes()
+        );
+    }
     Ok(())
 }
 

@@ -10,7 +10,7 @@ use crate::command::{Command, command_of};
 use crate::end::{Cut, End};
 use crate::script::{BYTE_LIMIT, LINE_LIMIT, run_lines};
 use crate::session::Session;
-use pcm_io::{Shelf, Sink, Source, write_rest};
+use pcm_io::{LOAD_LIMIT, Shelf, Sink, Source, write_rest};
 use pcm_text::{Status, Which};
 use std::alloc::Global;
 
@@ -23,6 +23,9 @@ fn status_of(ended: End) -> Status
         End::ScriptLines => Status::Limit(Which::ScriptLines, LINE_LIMIT + 1),
         End::ScriptBytes => Status::Limit(Which::ScriptBytes, BYTE_LIMIT as u64 + 1),
         End::ShelfFault => Status::ShelfFault,
+        End::Missing(name) => Status::Missing(name),
+        End::WavBytes => Status::Limit(Which::WavBytes, LOAD_LIMIT as u64),
+        End::BadWav(name, fault) => Status::BadWav(name, fault),
     }
 }
 
@@ -90,8 +93,9 @@ pub fn pcm_main<S: Source, K: Sink, F: Shelf>(
     ensures statuses { is_given result ≡ true }
     ensures ended { result ≡ Status.Ok → IsAtEnd (S.left source.new) }
 
-    // A script whose lines are all of the command, or skipped, and which keeps the limits, ends well where nothing fails.
-    ensures complete { IfSome (asked (map string_bytes words.now)) (λ command. IfSome (S.left source.old) (λ script. IsScript command script
+    // A script whose lines are all of the command, or skipped, which keeps the limits and loads WAV files alone, ends well
+    // where nothing fails.
+    ensures complete { IfSome (asked (map string_bytes words.now)) (λ command. IfSome (S.left source.old) (λ script. IsScript command script (F.files shelf.old)
         → (¬ Rose (S.faults source.old) (S.faults source.new)) → (¬ Rose (K.faults out.old) (K.faults out.new)) → (¬ Rose (F.faults shelf.old) (F.faults shelf.new))
         → (result ≡ Status.Ok) ⊎ (result ≡ Status.Memory))) }
 

@@ -5,8 +5,7 @@ use Rattle.pcm_base.specs.declared.state.Dir.{Dir}
 use Rattle.pcm_base.specs.model.Words.{is_closed, is_playback}
 use Rattle.pcm_base.specs.model.World.{stream_in}
 use Rattle.pcm_top.specs.Run.{has_wav_format, is_wav_format}
-use Rattle.pcm_top.proofs.SessionLemmas.{is-closed, state-undeclared, save-refusal, unset-savable, stream-can-write, saved-file}
-use Rattle.pcm_top.proofs.WorldLemmas.{and_second}
+use Rattle.pcm_top.proofs.SessionLemmas.{and_second, is-closed, state-undeclared, save-refusal, unset-savable, stream-can-write, saved-file}
 use Rattle.pcm_top.proofs.save.file_to_save.Goals as goal
 use Rattle.pcm_top.proofs.save.file_to_save.Goals.{in_default-config-via-in-Some-config+else-is_savable, in_default-config-via-in_default-config}
 
@@ -16,15 +15,14 @@ returns-in_default c = λ w is.
 
 pub write_wav-requires : goal.write_wav-requires
 write_wav-requires c =
-    let s = stream_in c.args.sub c.requires.0 in
-    let stands = c.in-Some.ensures.some c.requires.0 c.requires.1 in
-    let named = c.in-Some.ensures.model c.requires.0 c.requires.1 in
+    let s = stream_in c.args.sub c.requires.stands.0 in
+    let stands = c.in-Some.ensures.some c.requires.stands.0 c.requires.stands.1 in
     let config = c.in-Some-config.config.now in
     let has = sym (c.in-Some-config.ensures s stands) in
     let wav = and_second (is_playback c.dir.result) (is_wav_format config.format) (sym c.is_savable.ensures ∙ c.if-is_savable.true) in
     let frames = c.in_ok-to_vec-in-Some-config.ensures.items_if_clones_equal (λ x y h. h) ∙ c.taken.ensures in
     let whole = c.card.ensures.whole s stands config has in
-    stream-can-write named.0 s config c.in_ok-to_vec-in-Some-config.field-0.items named.1 stands.sound has wav
+    stream-can-write s config c.in_ok-to_vec-in-Some-config.field-0.items (c.has_wav_numbers.ensures c.if-not-has_wav_numbers.false) stands.sound has wav
     (subst (λ (l : List ℕ). length l % s.setup.frame_bytes ≡ 0) (sym frames) whole)
 
 pub returns-in-Ok : goal.returns-in-Ok

@@ -1,12 +1,12 @@
-use Rattle.std.proofs.Common.{◌≡◌, ◌+◌, ◌++◌, ◌<◌, ◌∙◌, ℕ, List, [], length, take, drop, refl, sym, ap, arith}
-use Rattle.std.specs.Prelude.{Err, None}
+use Rattle.std.proofs.Common.{◌+◌, ◌++◌, ◌∙◌, ℕ, List, [], length, take, drop, refl, sym, ap, arith}
+use Rattle.std.specs.Prelude.{Err}
 use Rattle.pcm_io.specs.Pieces.{in_pieces}
 use Rattle.pcm_io.specs.declared.reading.ReadEnd.{ReadEnd}
 use Rattle.pcm_io.proofs.Taken.{appends_more}
 use Rattle.pcm_top.specs.CodeSession.{behind}
 use Rattle.pcm_top.specs.declared.end.End.TheVariants.{Whole}
 use Rattle.pcm_top.specs.Script.{closing}
-use Rattle.pcm_top.specs.Session.{Session, begin}
+use Rattle.pcm_top.specs.Session.{begin}
 use Rattle.pcm_top.proofs.OutputLemmas.{if-some-map}
 use Rattle.pcm_top.proofs.ScriptLemmas.{kept_files, few-below}
 use Rattle.pcm_top.proofs.StreamLemmas.{appends-nothing, amid-begin, begin-open, begin-end, has-some, has-none, amid-has-more, end-has-more, end-next, at-next, fewer-left, ended-at, lacked-at, passed-at, still-open, ended-none, session-kept, amid-kept, front-sent, ran-full, ran-ended, ran-whole, ran-faulted, reached-amid, reached-lacked}
@@ -145,3 +145,10 @@ returns-clause-cut g c = λ other.
     if-some-map _ _ (g.S.Source.left c.args.source.now) (λ script amid.
     reached-amid c.args.command script _ _ c.lines.count c.lines.lines.ahead _ _ _ (behind here.sent here.now) here.sent amid
     here.session.shelf (here.now.text, refl) here.written) here.amid
+
+pub returns-in-Ok-close-clause-end : goal.returns-in-Ok-close-clause-end
+returns-in-Ok-close-clause-end g c = λ e.
+    let here = c.lines.invariant in
+    let more = c.in-Ok-false.ensures.more in
+    let none = has-none _ c.has_more.new.self.ahead.bytes c.in-Ok-false.ensures.some c.in-Ok-false.field-0-test in
+    end-has-more c.lines.lines c.has_more.new.self _ _ more here.at_end (ended-none c.lines.lines c.has_more.new.self _ _ more none here.more)

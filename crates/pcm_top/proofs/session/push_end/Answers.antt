@@ -11,7 +11,7 @@ returns-in_ok-extend_from_slice-clause-line c = λ w is.
     let s = stream_in c.args.sub w in
     let stands = c.in-Some.ensures.some w is in
     let shown = ap (λ (p : Page). end_line c.args.sub p c.moved_total.result) (c.page.ensures.page s stands) in
-    let moved = ap (λ (n : ℕ). end_line c.args.sub (page s) n) (c.moved_total.ensures s stands) in
+    let moved = ap (λ (n : ℕ). end_line c.args.sub (page s) n) (c.moved_total.ensures w is) in
     let line = end-declared c.args.sub w c.deref.result.now (sym (c.in-Some.ensures.none w is)) (c.deref.ensures.value ∙ c.in_ok-line.ensures ∙ shown ∙ moved) in
     c.in_ok-extend_from_slice.ensures.items ∙ ap (λ (l : List ℕ). c.args.session.now.text.items ++ l) line
 

@@ -1,6 +1,6 @@
 use Rattle.std.proofs.Common.{◌≡◌, ◌++◌}
 use Rattle.pcm_base.specs.model.World.{World}
-use Rattle.pcm_top.specs.OneStream.{IsWorld}
+use Rattle.pcm_world.specs.Shown.{IsWorld}
 use Rattle.pcm_top.proofs.SessionLemmas.{ends_below}
 use Rattle.pcm_top.proofs.session.push_ends.Given as goal
 

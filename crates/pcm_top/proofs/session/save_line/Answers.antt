@@ -1,16 +1,9 @@
-use Rattle.std.proofs.Common.{rules}
-use Rattle.pcm_line.specs.declared.line.Line.TheVariants.{Save}
-use Rattle.pcm_top.specs.declared.command.Command.TheVariants.{Run}
-use Rattle.pcm_top.proofs.SessionLemmas.{cut-before, save-cut, save-session}
+use Rattle.pcm_top.proofs.SessionLemmas.{save-cut, save-session}
 use Rattle.pcm_top.proofs.session.save_line.Goals as goal
-
-pub returns-in_err-reply-clause-memory : goal.returns-in_err-reply-clause-memory
-returns-in_err-reply-clause-memory g c s is memory =
-    cut-before Run c.args.number (Save c.args.sub c.args.name.now) c.args.session.now s (g.F.Shelf.files c.args.shelf.now) (g.F.Shelf.files c.save_taken.new.shelf) is (c.save_taken.ensures.memory (search rules))
 
 pub returns-in_err-push_told-clause-memory : goal.returns-in_err-push_told-clause-memory
 returns-in_err-push_told-clause-memory g c s is memory =
-    save-cut c.args.number c.args.sub c.args.name.now s (g.F.Shelf.files c.save_taken.new.shelf) c.requires.built (c.in_ok-reply.ensures.stored s.world s.files is.keeps.world is.shelf)
+    save-cut c.args.number c.args.sub c.args.name.now s (g.F.Shelf.files c.save_taken.new.shelf) (c.in_ok-reply.ensures.stored s.world s.files is.keeps.world is.shelf)
 
 pub returns-clause-ok : goal.returns-clause-ok
 returns-clause-ok g c s is =

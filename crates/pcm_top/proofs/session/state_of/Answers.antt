@@ -1,5 +1,0 @@
-use Rattle.pcm_top.proofs.SessionLemmas.{state-undeclared}
-use Rattle.pcm_top.proofs.session.state_of.Goals as goal
-
-pub returns-in-None : goal.returns-in-None
-returns-in-None c = λ w is. state-undeclared c.args.sub w (c.in-None.ensures.none w is)
