@@ -10,7 +10,6 @@ script, and what the run wrote.
 import argparse, os, shutil, subprocess, tempfile, time
 
 OPENED = 'card s0 duplex p\nopen c0 s0\nhw c0 s0 RW_INTERLEAVED U8 1 48000 8192 8\nprepare c0 s0\n'
-SMALL = 'card s0 basic p\nopen c0 s0\nhw c0 s0 RW_INTERLEAVED U8 1 8000 2 2\nprepare c0 s0\nwritei c0 s0 n 01020304\n'
 SPACE = 'space basic 8 4 2 2 1 200000 1 65536 2 32 4 65536\nspace studio 27 1092 1 8 1 200000 1 65536 2 32 4 65536\n'
 
 
@@ -22,10 +21,21 @@ def long_writes(size):
     return OPENED + first + turn * ((size - len(OPENED) - len(first)) // len(turn))
 
 
-def short_lines(count):
-    """Three frames are moved, reported and written, over and over: so many lines."""
-    turn = 'move s0 3\nirq s0\nwritei c0 s0 n 050607\npage c0 s0\n'
-    return SMALL + turn * ((count - 5) // 4)
+def opened(k):
+    """Substream k with a buffer of four frames."""
+    return f'card s{k} basic p\nopen c{k} s{k}\nhw c{k} s{k} RW_INTERLEAVED U8 1 8000 2 2\n'
+
+
+def short_lines(count, substreams=1, linked=False):
+    """Three frames are moved, reported and written, over and over, on one substream after another: so many lines."""
+    everyone = range(substreams)
+    first = ''.join(opened(k) for k in everyone)
+    first += ''.join(f'link c0 s0 s{k}\n' for k in everyone if linked and k > 0)
+    first += ''.join(f'prepare c{k} s{k}\n' for k in everyone if not linked or k == 0)
+    first += ''.join(f'writei c{k} s{k} n 01020304\n' for k in everyone)
+    turn = ''.join(f'move s{k} 3\nirq s{k}\nwritei c{k} s{k} n 050607\npage c{k} s{k}\n' for k in everyone)
+    lines = count - first.count('\n')
+    return first + turn * (lines // (4 * substreams))
 
 
 def least(runs, call):
@@ -54,6 +64,8 @@ def main():
         for name, word, text in (
                 ('run, 60 MB of long writes and movements', 'run', long_writes(60_000_000)),
                 ('run, 1,000,000 short lines', 'run', short_lines(1_000_000)),
+                ('run, 1,000,000 short lines, 16 substreams', 'run', short_lines(1_000_000, 16)),
+                ('run, 1,000,000 short lines, a group of 16', 'run', short_lines(1_000_000, 16, True)),
                 ('refine, 100,000 lines', 'refine', SPACE * 50_000)):
             with open(script, 'w') as f:
                 f.write(text)
