@@ -38,6 +38,13 @@ def short_lines(count, substreams=1, linked=False):
     return first + turn * (lines // (4 * substreams))
 
 
+def starts_of_sixteen(count):
+    """A group of sixteen capture cards is prepared, started and dropped, over and over: so many lines."""
+    cards = ''.join(f'card s{k} basic c\nopen c0 s{k}\nhw c0 s{k} RW_INTERLEAVED U8 1 8000 2 2\n' for k in range(16))
+    links = ''.join(f'link c0 s0 s{k}\n' for k in range(1, 16))
+    return cards + links + 'prepare c0 s0\nstart c0 s0\ndrop c0 s0\n' * (count // 3)
+
+
 def least(runs, call):
     best = None
     for _ in range(runs):
@@ -66,6 +73,7 @@ def main():
                 ('run, 1,000,000 short lines', 'run', short_lines(1_000_000)),
                 ('run, 1,000,000 short lines, 16 substreams', 'run', short_lines(1_000_000, 16)),
                 ('run, 1,000,000 short lines, a group of 16', 'run', short_lines(1_000_000, 16, True)),
+                ('run, 300,000 starts and stops of 16', 'run', starts_of_sixteen(300_000)),
                 ('refine, 100,000 lines', 'refine', SPACE * 50_000)):
             with open(script, 'w') as f:
                 f.write(text)
