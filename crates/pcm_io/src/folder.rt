@@ -8,7 +8,7 @@ use pcm_base::Name;
 use std::alloc::{AllocError, Global};
 use std::fs;
 use std::fs::{File, Files, OpenOptions};
-use std::io::ErrorKind;
+use std::io::{Error, ErrorKind};
 use std::path::PathBuf;
 use std::str::from_utf8;
 
@@ -16,7 +16,7 @@ use std::str::from_utf8;
 /// of a folder in a file's place, or of a file that may not be read or written. A store writes beside the file, under a
 /// name that begins with a dot and ends in `.part0` to `.part9`, and then renames, so that no half of a file stands under
 /// the name; it touches no other file. It replaces a regular file, a symbolic link to one or to nothing (what a link points
-/// to stays), or nothing; a pipe or a device is refused at once. This project's own.
+/// to stays), or nothing. A pipe or a device is neither loaded nor replaced, but refused at once. This project's own.
 #[derive(Drop)]
 pub struct FolderShelf<'a, F> {
     files: F,
@@ -39,6 +39,27 @@ fn path_in(alloc: Global, folder: &str, file: &str) -> Result<PathBuf, AllocErro
     let mut path = PathBuf::from_str(alloc, folder)?;
     path.push(file)?;
     Ok(path)
+}
+
+// Why a file was not opened: there is none, or something failed.
+fn unopened<T>(error: &Error) -> Result<Option<T>, ShelfError> {
+    match error.kind() {
+        ErrorKind::NotFound => Ok(None),
+        _ => Err(ShelfError::Failed),
+    }
+}
+
+// The file of that name; None where there is none. What is no file is not opened, since that may wait.
+fn open_file<F: Files>(files: &F, path: &PathBuf) -> Result<Option<F::File>, ShelfError> {
+    match fs::metadata(files, path) {
+        Ok(found) if !found.is_file() => return Err(ShelfError::Failed),
+        Ok(_) => {}
+        Err(e) => return unopened(&e),
+    }
+    match File::open(files, path) {
+        Ok(file) => Ok(Some(file)),
+        Err(e) => unopened(&e),
+    }
 }
 
 // A file of that name may be written, or there is none. What is no file is not opened, since that may wait.
@@ -102,14 +123,11 @@ impl<'a, F: Files> FolderShelf<'a, F> {
         ensures bound { IfOk result (λ found. IfSome found (λ bytes. vec_len bytes ≤ LOAD_LIMIT)) }
     {
         let path = path_in(self.alloc, self.folder, text_of(name)?)?;
-        match File::open(&self.files, &path) {
-            Ok(file) => {
-                let bytes = read_to_limit(self.alloc, &mut StdSource::new(file), LOAD_LIMIT - 1)?;
-                Ok(Some(bytes))
-            }
-            Err(e) if e.kind() == ErrorKind::NotFound => Ok(None),
-            Err(_) => Err(ShelfError::Failed),
-        }
+        let Some(file) = open_file(&self.files, &path)? else {
+            return Ok(None);
+        };
+        let bytes = read_to_limit(self.alloc, &mut StdSource::new(file), LOAD_LIMIT - 1)?;
+        Ok(Some(bytes))
     }
 
     fn store_file(&self, name: &Name, bytes: &[u8]) -> Result<(), ShelfError> {
