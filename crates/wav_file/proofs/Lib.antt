@@ -4,3 +4,4 @@ pub mod Formats
 pub mod Files
 pub mod Written
 pub mod SampleMoves
+pub mod Readable

@@ -81,6 +81,7 @@ fn fields_of(chunk: Chunk) -> Result<Layout, WavError>
     requires room { chunk.at + length chunk.bytes.now < 2 ^ 64 }
     ensures value { result ≡ fields_at (place_of chunk.entry) }
     ensures channels { IfOk result (λ l. (1 ≤ l.channels) × (l.channels ≤ 8)) }
+    ensures rate { IfOk result (λ l. l.rate < 2 ^ 32) }
 {
     let Chunk { at, bytes } = chunk;
     let channels = u64::from(LittleEndian::read_u16(&bytes[10..]));
@@ -142,6 +143,7 @@ pub(crate) fn layout_of(chunk: Chunk) -> Result<Layout, WavError>
     requires room { chunk.at + length chunk.bytes.now < 2 ^ 64 }
     ensures value { result ≡ format_at (place_of chunk.entry) }
     ensures channels { IfOk result (λ l. (1 ≤ l.channels) × (l.channels ≤ 8)) }
+    ensures rate { IfOk result (λ l. l.rate < 2 ^ 32) }
 {
     let Chunk { at, bytes } = chunk;
     let size = body_size(bytes);

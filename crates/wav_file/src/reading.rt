@@ -1,8 +1,8 @@
 // Reading a file.
-ghost use Rattle.std.specs.Prelude.{◌≡◌, ◌⊎◌, ◌≤◌, List, ℕ, length, IfOk, IfErr, MatchResult};
+ghost use Rattle.std.specs.Prelude.{◌≡◌, ◌⊎◌, ◌<◌, ◌≤◌, ◌^◌, List, ℕ, length, IfOk, IfErr, MatchResult};
 ghost use Rattle.wav_file.specs.Recordings.{Recording, recording, frame_bytes, whole_frames};
 ghost use Rattle.wav_file.specs.Chunks.{body_at};
-ghost use Rattle.wav_file.specs.Grammar.{IsWav};
+ghost use Rattle.wav_file.specs.Grammar.{CanWrite, IsWav};
 ghost use Rattle.wav_file.specs.Faults.{Answers, WavFault, is_riff as riff_test, recording_of};
 ghost use Rattle.wav_file.specs.declared.wav.WavError.{WavError};
 ghost use Rattle.wav_file.specs.declared.wav.WavError.TheVariants.{Memory};
@@ -34,7 +34,8 @@ fn frames_in<'a>(chunk: Chunk<'a>, layout: &Layout) -> &'a [u8]
 
 /// What the file holds, its frames as they stand there.
 fn sound_in(bytes: &[u8]) -> Result<(Layout, &[u8]), WavError>
-    ensures { MatchResult result (λ x. Answers bytes.now (Ok (recording_of x.0 x.1.now))) (λ e. Answers bytes.now (Err e)) }
+    ensures answers { MatchResult result (λ x. Answers bytes.now (Ok (recording_of x.0 x.1.now))) (λ e. Answers bytes.now (Err e)) }
+    ensures rate { IfOk result (λ x. x.0.rate < 2 ^ 32) }
 {
     if !is_riff(bytes) {
         return Err(WavError::NotRiff);
@@ -62,6 +63,8 @@ fn sound_in(bytes: &[u8]) -> Result<(Layout, &[u8]), WavError>
 pub fn read_wav(alloc: Global, bytes: &[u8]) -> Result<Wav, WavError>
     // The bytes are a WAV file of what is read.
     ensures found { IfOk result (λ wav. IsWav bytes.now (recording wav)) }
+    // What is read can be written.
+    ensures writable { IfOk result (λ wav. CanWrite (recording wav)) }
     // A WAV file is read so, unless memory runs out.
     ensures only { (r : Recording) → IsWav bytes.now r → MatchResult result (λ wav. recording wav ≡ r) (λ e. e ≡ Memory) }
     // An error is the file's fault, unless memory ran out.
