@@ -3,8 +3,9 @@ ghost use Rattle.std.specs.Prelude.{◌≡◌, ◌<◌, ◌*◌, IfOk, OnOk, ◌
 ghost use Rattle.std.specs.Bool.{OnTrue};
 ghost use Rattle.std.specs.Option.{option_map};
 ghost use Rattle.pcm_line.specs.Kinds.{OfHex, spelled, hex_digit};
-ghost use Rattle.pcm_line.specs.Hex.{digit_or_sixteen, pairs_in_front, hex_in_front, is_piece_end};
+ghost use Rattle.pcm_line.specs.Hex.{digit_or_sixteen, pairs_in_front, hex_in_front};
 
+use crate::pieces::ends_piece;
 use std::alloc::{AllocError, Global};
 
 /// The value of a byte as a hex digit, 16 for one that is none. It has no branch, so that a loop over many digits becomes
@@ -66,15 +67,6 @@ fn pairs(alloc: Global, text: &[u8]) -> Result<(Vec<u8>, &[u8]), AllocError>
     pairs_in_turn(alloc, text)
 }
 
-fn ends(rest: &[u8]) -> bool
-    ensures { result ≡ is_piece_end rest.now }
-{
-    match rest {
-        [] => true,
-        [b, ..] => *b == b' ',
-    }
-}
-
 /// The bytes of the piece at the front, where it is hex, and what follows it.
 pub(crate) fn read_front(alloc: Global, text: &[u8]) -> Result<Option<(Vec<u8>, &[u8])>, AllocError>
     ensures { IfOk result (λ o. option_map (λ x. (x.0.items, x.1.now)) o ≡ hex_in_front text.now) }
@@ -82,7 +74,7 @@ pub(crate) fn read_front(alloc: Global, text: &[u8]) -> Result<Option<(Vec<u8>, 
     match text {
         [] => Ok(None),
         [b'-', rest @ ..] => {
-            if ends(rest) {
+            if ends_piece(rest) {
                 Ok(Some((Vec::new(alloc), rest)))
             } else {
                 Ok(None)
@@ -90,7 +82,7 @@ pub(crate) fn read_front(alloc: Global, text: &[u8]) -> Result<Option<(Vec<u8>, 
         }
         _ => {
             let (bytes, rest) = pairs(alloc, text)?;
-            if !bytes.is_empty() && ends(rest) {
+            if !bytes.is_empty() && ends_piece(rest) {
                 Ok(Some((bytes, rest)))
             } else {
                 Ok(None)

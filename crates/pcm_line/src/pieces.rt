@@ -1,6 +1,7 @@
 // A cursor over the pieces of a line.
 ghost use Rattle.std.specs.Prelude.{◌≡◌, ◌≤◌, ◌+◌, ◌^◌, ◌∷◌, length, take, drop};
 ghost use Rattle.pcm_line.specs.Pieces.{pieces_of, pieces_left};
+ghost use Rattle.pcm_line.specs.Hex.{is_piece_end};
 
 /// How many bytes stand before the first space, or all.
 pub(crate) fn piece_len(bytes: &[u8]) -> usize
@@ -15,6 +16,17 @@ pub(crate) fn piece_len(bytes: &[u8]) -> usize
         i += 1;
     }
     i
+}
+
+/// Whether a piece ends before these bytes.
+#[inline(always)]
+pub(crate) fn ends_piece(rest: &[u8]) -> bool
+    ensures { result ≡ is_piece_end rest.now }
+{
+    match rest {
+        [] => true,
+        [b, ..] => *b == b' ',
+    }
 }
 
 /// What is left of a line: nothing, or a space and the pieces behind it.

@@ -15,6 +15,7 @@ use pcm_base::{Call, ClientId, Config, Event, Space, Span, SubId, SwParams};
 use std::alloc::{AllocError, Global};
 
 /// Appends a space and these bytes.
+#[inline(always)]
 fn push_piece(out: &mut Vec<u8>, piece: &[u8]) -> Result<(), AllocError>
     ensures { OnOk result (out.new.items ≡ out.old.items ++ 32 ∷ piece.now) }
 {
@@ -22,9 +23,13 @@ fn push_piece(out: &mut Vec<u8>, piece: &[u8]) -> Result<(), AllocError>
     out.extend_from_slice(piece)
 }
 
+#[tactic(auto, using(std::proofs::lemmas::Fmt::decimal_digit))]
 fn push_number(out: &mut Vec<u8>, number: u64) -> Result<(), AllocError>
     ensures { OnOk result (out.new.items ≡ out.old.items ++ 32 ∷ spelled OfNumber number) }
 {
+    if number < 10 {
+        return out.extend_from_slice(&[b' ', b'0' + number as u8]);
+    }
     let mut buffer = Buffer::new();
     push_piece(out, buffer.format(number).as_bytes())
 }

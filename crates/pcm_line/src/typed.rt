@@ -5,7 +5,7 @@ ghost use Rattle.pcm_line.specs.Kinds.{OfNumber, OfClient, OfSub, OfMode, OfDir,
 ghost use Rattle.pcm_line.specs.Reading.{Gives, next_piece, read_value, read_end};
 
 use crate::error::LineError;
-use crate::pieces::{Pieces, piece_len};
+use crate::pieces::{Pieces, ends_piece, piece_len};
 use crate::{hex, kinds};
 use pcm_base::{Access, Bytes, ClientId, Dir, Format, Mode, Model, Name, SubId};
 use std::alloc::Global;
@@ -24,8 +24,23 @@ impl<'a> Pieces<'a> {
         Ok(piece)
     }
 
-    /// The next piece as a number.
+    /// The next piece as a number. One digit is read at once.
+    #[inline(always)]
     pub fn number(&mut self) -> Result<u64, LineError>
+        ensures { Gives (λ v. (v, place_at self.new.at self.new.rest.now)) result (read_value OfNumber (place_at self.old.at self.old.rest.now)) }
+    {
+        match self.rest {
+            [_, digit, rest @ ..] if digit.is_ascii_digit() && ends_piece(rest) => {
+                self.at += 2;
+                self.rest = rest;
+                Ok(u64::from(*digit - b'0'))
+            }
+            _ => self.any_number(),
+        }
+    }
+
+    #[inline(never)]
+    fn any_number(&mut self) -> Result<u64, LineError>
         ensures { Gives (λ v. (v, place_at self.new.at self.new.rest.now)) result (read_value OfNumber (place_at self.old.at self.old.rest.now)) }
     {
         let at = self.at;
@@ -33,8 +48,23 @@ impl<'a> Pieces<'a> {
         kinds::number(piece).ok_or(LineError::Number(at))
     }
 
-    /// The next piece as a client.
+    /// The next piece as a client. One digit is read at once.
+    #[inline(always)]
     pub fn client(&mut self) -> Result<ClientId, LineError>
+        ensures { Gives (λ v. (v, place_at self.new.at self.new.rest.now)) result (read_value OfClient (place_at self.old.at self.old.rest.now)) }
+    {
+        match self.rest {
+            [_, b'c', digit, rest @ ..] if digit.is_ascii_digit() && ends_piece(rest) => {
+                self.at += 3;
+                self.rest = rest;
+                Ok(ClientId(*digit - b'0'))
+            }
+            _ => self.any_client(),
+        }
+    }
+
+    #[inline(never)]
+    fn any_client(&mut self) -> Result<ClientId, LineError>
         ensures { Gives (λ v. (v, place_at self.new.at self.new.rest.now)) result (read_value OfClient (place_at self.old.at self.old.rest.now)) }
     {
         let at = self.at;
@@ -45,8 +75,23 @@ impl<'a> Pieces<'a> {
         }
     }
 
-    /// The next piece as a substream.
+    /// The next piece as a substream. One digit is read at once.
+    #[inline(always)]
     pub fn sub(&mut self) -> Result<SubId, LineError>
+        ensures { Gives (λ v. (v, place_at self.new.at self.new.rest.now)) result (read_value OfSub (place_at self.old.at self.old.rest.now)) }
+    {
+        match self.rest {
+            [_, b's', digit, rest @ ..] if digit.is_ascii_digit() && ends_piece(rest) => {
+                self.at += 3;
+                self.rest = rest;
+                Ok(SubId(*digit - b'0'))
+            }
+            _ => self.any_sub(),
+        }
+    }
+
+    #[inline(never)]
+    fn any_sub(&mut self) -> Result<SubId, LineError>
         ensures { Gives (λ v. (v, place_at self.new.at self.new.rest.now)) result (read_value OfSub (place_at self.old.at self.old.rest.now)) }
     {
         let at = self.at;

@@ -2,9 +2,9 @@
 use Rattle.std.proofs.Common.{◌≡◌, ℕ, zero, suc, ◌+◌, ◌*◌, ◌/◌, ◌%◌, ◌^◌, ◌<◌, ◌≤◌, List, [], ◌∷◌, ◌++◌, map, length, get_or, take, drop, replicate, bit_and, refl, sym, ap, ◌∙◌, arith, w8, Fits, append_assoc}
 use Rattle.std.proofs.lemmas.List.{get_or-map, length-map, ext_get_or}
 use Rattle.std.proofs.lemmas.Nat.{and_le_r, and_mask}
-use Rattle.std.proofs.lemmas.Simd.{Each1-all, Each1-weaker, Each1-zip2, Each2-splat, below_from_Fits, length-zip2, zip2_splat, swz_l, SwzOk, SwzOk-from_below, length-swz_l, get_or-swz_l_below, length-chunk, take_more_put_chunk}
-use Rattle.std.proofs.lemmas.List.{drop-drop}
-use lib.Lanes.{zip2, Each1, pick_l, chunk, put_chunk}
+use Rattle.std.proofs.lemmas.Simd.{Each1-all, Each1-weaker, Each1-zip2, Each2-splat, below_from_Fits, length-zip2, zip2_splat, swz_l, SwzOk, SwzOk-from_below, length-swz_l, get_or-swz_l_below}
+use Rattle.std.proofs.lemmas.List.{take-append-drop, take-take, drop-take, take_more, take_all}
+use lib.Lanes.{zip2, Each1, pick_l}
 use Rattle.pcm_text.specs.Hex.{hex_digit, hex_pairs}
 
 abbrev pub IsBlock : List ℕ → Type 0
@@ -79,40 +79,33 @@ pairs-append : (xs ys : List ℕ) → hex_pairs (xs ++ ys) ≡ hex_pairs xs ++ h
 pairs-append [] ys = refl
 pairs-append (x ∷ xs) ys = ap (λ t. hex_digit (x / 16) ∷ hex_digit (x % 16) ∷ t) (pairs-append xs ys)
 
-take-drop : (n : ℕ) (xs : List ℕ) → xs ≡ take n xs ++ drop n xs
-take-drop zero xs = refl
-take-drop (suc n) [] = refl
-take-drop (suc n) (x ∷ xs) = ap (λ t. x ∷ t) (take-drop n xs)
+take_sum : (n m : ℕ) (xs : List ℕ) → take (n + m) xs ≡ take n xs ++ take m (drop n xs)
+take_sum n m xs =
+    sym (take-append-drop n (take (n + m) xs)) ∙ ap (λ t. t ++ drop n (take (n + m) xs)) (take-take n (n + m) xs (omega arith)) ∙ ap (λ t. take n xs ++ t) (drop-take n m xs)
 
-drop-more : (n m : ℕ) (xs : List ℕ) → drop m (drop n xs) ≡ drop (n + m) xs
-drop-more n m xs = drop-drop m n xs
+joined : (old before now front more whole : List ℕ) → before ≡ old ++ hex_pairs front → now ≡ before ++ hex_pairs more → whole ≡ front ++ more → now ≡ old ++ hex_pairs whole
+joined old before now front more whole stood put is =
+    put
+    ∙ ap (λ t. t ++ hex_pairs more) stood
+    ∙ append_assoc old (hex_pairs front) (hex_pairs more)
+    ∙ ap (λ t. old ++ t) (sym (ap (λ l. hex_pairs l) is ∙ pairs-append front more))
 
 -- one more block
-pub one_more : (bytes area stored : List ℕ) (i : ℕ) → take (2 * (16 * i + 16)) stored ≡ take (2 * (16 * i)) area ++ hex_pairs (take 16 (drop (16 * i) bytes))
-    → take (2 * (16 * i)) area ++ hex_pairs (drop (16 * i) bytes) ≡ hex_pairs bytes → take (2 * (16 * (i + 1))) stored ++ hex_pairs (drop (16 * (i + 1)) bytes) ≡ hex_pairs bytes
-one_more bytes area stored i put before =
-    let here : List ℕ = drop (16 * i) bytes in
-    let block : List ℕ = hex_pairs (take 16 here) in
+pub one_more : (old before now bytes : List ℕ) (i : ℕ) → before ≡ old ++ hex_pairs (take (16 * i) bytes) → now ≡ before ++ hex_pairs (take 16 (drop (16 * i) bytes))
+    → now ≡ old ++ hex_pairs (take (16 * (i + 1)) bytes)
+one_more old before now bytes i stood put =
     let next : 16 * (i + 1) ≡ 16 * i + 16 = omega arith in
-    let rest : drop 16 here ≡ drop (16 * (i + 1)) bytes = drop-more (16 * i) 16 bytes ∙ ap (λ n. drop n bytes) (sym next) in
-    let split : hex_pairs here ≡ block ++ hex_pairs (drop (16 * (i + 1)) bytes) = ap (λ l. hex_pairs l) (take-drop 16 here) ∙ pairs-append (take 16 here) (drop 16 here) ∙ ap (λ t. block ++ hex_pairs t) rest in
-    ap (λ n. take (2 * n) stored ++ hex_pairs (drop (16 * (i + 1)) bytes)) next
-    ∙ ap (λ t. t ++ hex_pairs (drop (16 * (i + 1)) bytes)) put
-    ∙ append_assoc (take (2 * (16 * i)) area) block (hex_pairs (drop (16 * (i + 1)) bytes))
-    ∙ ap (λ t. take (2 * (16 * i)) area ++ t) (sym split)
-    ∙ before
+    joined old before now (take (16 * i) bytes) (take 16 (drop (16 * i) bytes)) (take (16 * (i + 1)) bytes) stood put (ap (λ n. take n bytes) next ∙ take_sum (16 * i) 16 bytes)
 
-length-pairs : (xs : List ℕ) → length (hex_pairs xs) ≡ 2 * length xs
-length-pairs [] = refl
-length-pairs (x ∷ xs) = omega (arith, length-pairs xs)
-
-pub stored : (area bytes pairs : List ℕ) (at : ℕ) → at + 16 ≤ length bytes → length area ≡ 2 * length bytes → pairs ≡ hex_pairs (chunk at 16 bytes)
-    → take (2 * (at + 16)) (put_chunk (2 * at) area pairs) ≡ take (2 * at) area ++ hex_pairs (chunk at 16 bytes)
-stored area bytes pairs at whole room e =
-    let few : length pairs ≡ 32 = ap (λ l. length l) e ∙ length-pairs (chunk at 16 bytes) ∙ ap (λ n. 2 * n) (length-chunk at 16 bytes whole) in
-    take_more_put_chunk (2 * at) area pairs (2 * (at + 16)) (omega (arith, few)) (omega (arith, whole, room)) ∙ ap (λ t. take (2 * at) area ++ t) e
+-- one more byte
+pub one_byte : (old before now bytes : List ℕ) (i : ℕ) → i < length bytes → before ≡ old ++ hex_pairs (take i bytes) → now ≡ before ++ hex_pairs (get_or bytes i 0 ∷ [])
+    → now ≡ old ++ hex_pairs (take (i + 1) bytes)
+one_byte old before now bytes i lt stood put = joined old before now (take i bytes) (get_or bytes i 0 ∷ []) (take (i + 1) bytes) stood put (take_more bytes i 0 lt)
 
 -- behind the last block
-pub arrived : (bytes area : List ℕ) (i n : ℕ) → i ≡ n → take (2 * (16 * i)) area ++ hex_pairs (drop (16 * i) bytes) ≡ hex_pairs bytes
-    → take (2 * (16 * n)) area ++ hex_pairs (drop (16 * n) bytes) ≡ hex_pairs bytes
-arrived bytes area i n e here = sym (ap (λ k. take (2 * (16 * k)) area ++ hex_pairs (drop (16 * k) bytes)) e) ∙ here
+pub arrived : (old now bytes : List ℕ) (i n : ℕ) → i ≡ n → now ≡ old ++ hex_pairs (take (16 * i) bytes) → now ≡ old ++ hex_pairs (take (16 * n) bytes)
+arrived old now bytes i n e here = here ∙ ap (λ k. old ++ hex_pairs (take (16 * k) bytes)) e
+
+-- behind the last byte
+pub whole : (old now bytes : List ℕ) (i : ℕ) → length bytes ≤ i → now ≡ old ++ hex_pairs (take i bytes) → now ≡ old ++ hex_pairs bytes
+whole old now bytes i le here = here ∙ ap (λ l. old ++ hex_pairs l) (take_all i bytes le)

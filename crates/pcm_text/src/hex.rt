@@ -1,5 +1,6 @@
 // Bytes as hex.
-ghost use Rattle.std.specs.Prelude.{◌≡◌, ◌<◌, ◌≤◌, ◌+◌, ◌*◌, ◌/◌, ◌%◌, ◌++◌, length, map, take, drop, OnOk, OnErr};
+ghost use Rattle.std.specs.Prelude.{◌≡◌, ◌<◌, ◌≤◌, ◌+◌, ◌/◌, ◌%◌, ◌++◌, ◌∷◌, [], length, map, take, drop, OnOk, OnErr};
+ghost use Rattle.pcm_text.specs.Front.{KeepsFront};
 ghost use Rattle.pcm_text.specs.Hex.{hex_digit, hex_pairs, hex_text};
 
 use crate::push_text;
@@ -43,29 +44,38 @@ fn both_digits(bytes: u8x16) -> u8x32
     )
 }
 
-/// The pairs of the sixteen bytes from this place on.
+/// Puts the pairs of the sixteen bytes from this place on at the end of the text.
 #[inline(always)]
-fn write_block(area: &mut [u8], bytes: &[u8], at: usize)
-    requires whole { at + 16 ≤ length bytes.now }
-    requires room { length area.old ≡ 2 * length bytes.now }
-    ensures { take (2 * (at + 16)) area.new ≡ take (2 * at) area.old ++ hex_pairs (take 16 (drop at bytes.now)) }
+fn push_block(text: &mut Vec<u8>, bytes: &[u8], at: usize) -> Result<(), AllocError>
+    requires { at + 16 ≤ length bytes.now }
+    ensures ok { OnOk result (text.new.items ≡ text.old.items ++ hex_pairs (take 16 (drop at bytes.now))) }
+    ensures err { OnErr result (text.new.items ≡ text.old.items) }
 {
-    both_digits(u8x16::from_slice(&bytes[at..])).copy_to_slice(&mut area[2 * at..]);
+    let digits = both_digits(u8x16::from_slice(&bytes[at..]));
+    text.extend_from_slice(&digits.to_array())
 }
 
-fn write_pairs(area: &mut [u8], bytes: &[u8])
-    requires { length area.old ≡ 2 * length bytes.now }
-    ensures { area.new ≡ hex_pairs bytes.now }
+/// Puts the two digits of a byte at the end of the text.
+#[inline(always)]
+fn push_pair(text: &mut Vec<u8>, byte: u8) -> Result<(), AllocError>
+    ensures ok { OnOk result (text.new.items ≡ text.old.items ++ hex_pairs (byte ∷ [])) }
+    ensures err { OnErr result (text.new.items ≡ text.old.items) }
+{
+    text.extend_from_slice(&[digit(byte / 16), digit(byte % 16)])
+}
+
+fn push_pairs(text: &mut Vec<u8>, bytes: &[u8]) -> Result<(), AllocError>
+    ensures ok { OnOk result (text.new.items ≡ text.old.items ++ hex_pairs bytes.now) }
+    ensures err { OnErr result (KeepsFront text.old.items text.new.items) }
 {
     let blocks = bytes.len() / 16;
     'parts: for i in 0..blocks {
-        write_block(area, bytes, 16 * i);
+        push_block(text, bytes, 16 * i)?;
     }
     'bytes: for i in 16 * blocks..bytes.len() {
-        let byte = bytes[i];
-        area[2 * i] = digit(byte / 16);
-        area[2 * i + 1] = digit(byte % 16);
+        push_pair(text, bytes[i])?;
     }
+    Ok(())
 }
 
 /// Puts the bytes at the end of the text, each as two lower-case hex digits, the high one first, and `-` for no bytes.
@@ -78,9 +88,10 @@ pub fn push_hex(text: &mut Vec<u8>, bytes: &[u8]) -> Result<(), AllocError>
         return push_text(text, b"-");
     }
     let start = text.len();
-    let pairs = bytes.len().checked_mul(2).ok_or(AllocError)?;
-    let end = start.checked_add(pairs).ok_or(AllocError)?;
-    text.resize(end, 0)?;
-    write_pairs(&mut text[start..], bytes);
-    Ok(())
+    text.reserve(bytes.len().saturating_mul(2))?;
+    let pushed = push_pairs(text, bytes);
+    if pushed.is_err() {
+        text.truncate(start);
+    }
+    pushed
 }

@@ -7,6 +7,7 @@ use itoa::Buffer;
 use std::alloc::AllocError;
 
 /// Puts the part at the end of the text. An error leaves the text as it was.
+#[inline(always)]
 pub fn push_text(text: &mut Vec<u8>, part: &[u8]) -> Result<(), AllocError>
     ensures ok { OnOk result (text.new.items ≡ text.old.items ++ part.now) }
     ensures err { OnErr result (text.new.items ≡ text.old.items) }
@@ -33,6 +34,7 @@ pub(crate) fn push_signed(text: &mut Vec<u8>, number: i64) -> Result<(), AllocEr
     push_text(text, Buffer::new().format(number).as_bytes())
 }
 
+#[inline(always)]
 pub(crate) fn push_counted(text: &mut Vec<u8>, word: &[u8], number: u64) -> Result<(), AllocError>
     ensures ok { OnOk result (text.new.items ≡ text.old.items ++ (word.now ++ decimal number)) }
     ensures err { OnErr result (KeepsFront text.old.items text.new.items) }
