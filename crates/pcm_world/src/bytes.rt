@@ -1,10 +1,10 @@
 // The bytes that a call's step is lent, and those that a read tells.
-ghost use Rattle.std.specs.Prelude.{◌≡◌, ◌≤◌, ◌*◌, ◌%◌, IfOk, IfSome, length};
+ghost use Rattle.std.specs.Prelude.{◌≡◌, ◌≤◌, ◌*◌, ◌%◌, IfSome, OnOk, length};
 ghost use Rattle.pcm_base.specs.Shape.{IsSoundShape};
 ghost use Rattle.pcm_world.specs.Bytes.{first_by, fronts, length_begun, lent_bytes};
 
 use pcm_base::{Call, Layout, Shape};
-use std::alloc::{AllocError, Global};
+use std::alloc::AllocError;
 
 /// The most frames of one read.
 const MOST_FRAMES: u64 = 1_048_576;
@@ -24,25 +24,26 @@ fn length_read(call: Call, shape: &Shape) -> u64
     }
 }
 
-/// What a call's step is lent: zeros for what it reads, nothing for a drain, else the bytes that were handed in.
-pub(crate) fn lent(
-    alloc: Global,
+/// Fills `io` with what a call's step is lent: zeros for what it reads, nothing for a drain, else the bytes that were handed
+/// in. Its memory is used again.
+pub(crate) fn lend(
+    io: &mut Vec<u8>,
     call: Call,
-    shape: Option<Shape>,
+    shape: &Option<Shape>,
     bytes: &[u8],
-) -> Result<Vec<u8>, AllocError>
-    requires { IfSome shape IsSoundShape }
-    ensures { IfOk result (λ v. v.items ≡ lent_bytes call shape bytes.now) }
+) -> Result<(), AllocError>
+    requires { IfSome shape.now IsSoundShape }
+    ensures { OnOk result (io.new.items ≡ lent_bytes call shape.now bytes.now) }
 {
-    let mut io = Vec::new(alloc);
+    io.clear();
     match (call, shape) {
         (Call::Read(_, _, _) | Call::Load(_, _), Some(shape)) => {
-            io.resize(length_read(call, &shape) as usize, 0)?;
+            io.resize(length_read(call, shape) as usize, 0)
         }
-        (Call::Read(_, _, _) | Call::Load(_, _) | Call::Drain(_), _) => {}
-        _ => io.extend_from_slice(bytes)?,
+        (Call::Read(_, _, _) | Call::Load(_, _) | Call::Drain(_), _) => Ok(()),
+        _ if bytes.is_empty() => Ok(()),
+        _ => io.extend_from_slice(bytes),
     }
-    Ok(io)
 }
 
 // The front of each channel's area follows that of the one before.

@@ -17,7 +17,7 @@ ghost use Rattle.pcm_world.specs.Groups.{AreFreeFor, GroupsStand, numbers_in, pl
 ghost use Rattle.pcm_world.specs.Shown.{slot_bytes};
 
 use crate::bytes::first_frames;
-use crate::calls::Kept;
+use crate::calls::{Kept, put_result};
 use crate::groups::Groups;
 use pcm_base::{ClientId, Event, Reply, Shape, Told};
 
@@ -56,22 +56,22 @@ fn end_call(
     client: ClientId,
     reply: Reply,
     shape: Option<Shape>,
-    mut kept: Kept,
+    kept: &mut Kept,
 )
     requires client { client.0 ≤ 15 }
     requires sound { IfSome shape IsSoundShape }
-    requires frames { (h : ShapeOf) (l : LayoutOf) (n : ℕ) → shape ≡ Some h → kept.layout ≡ Some l → reply ≡ Frames n → (length kept.bytes.items % h.frame_bytes ≡ 0) × (n * h.frame_bytes ≤ length kept.bytes.items) }
-    ensures call { slice_get calls.new client.0 ≡ (if is_asleep reply then Some (Some kept) else slice_get calls.old client.0) }
+    requires frames { (h : ShapeOf) (l : LayoutOf) (n : ℕ) → shape ≡ Some h → kept.old.layout ≡ Some l → reply ≡ Frames n → (length kept.old.bytes.items % h.frame_bytes ≡ 0) × (n * h.frame_bytes ≤ length kept.old.bytes.items) }
+    ensures call { slice_get calls.new client.0 ≡ (if is_asleep reply then Some (Some kept.old) else slice_get calls.old client.0) }
     ensures calls { (k : ℕ) → k ≢ client.0 → slice_get calls.new k ≡ slice_get calls.old k }
-    ensures result { slot_bytes (slice_get results.new client.0) ≡ bytes_told reply kept.layout shape kept.bytes.items (slot_bytes (slice_get results.old client.0)) }
+    ensures result { slot_bytes (slice_get results.new client.0) ≡ bytes_told reply kept.old.layout shape kept.old.bytes.items (slot_bytes (slice_get results.old client.0)) }
     ensures results { (k : ℕ) → k ≢ client.0 → slice_get results.new k ≡ slice_get results.old k }
 {
     let place = client.0 as usize;
     match (reply, kept.layout, shape) {
-        (Reply::Asleep, _, _) => calls[place] = Some(kept),
+        (Reply::Asleep, _, _) => calls[place] = Some(kept.take()),
         (Reply::Frames(count), Some(layout), Some(shape)) => {
             first_frames(&mut kept.bytes, layout, &shape, count);
-            results[place] = Some(kept.bytes);
+            put_result(&mut results[place], &mut kept.bytes);
         }
         _ => {}
     }
@@ -85,14 +85,14 @@ pub(crate) fn end(
     client: Option<ClientId>,
     reply: Reply,
     shape: Option<Shape>,
-    kept: Kept,
+    kept: &mut Kept,
 )
     requires client { ForSome client (λ c. c.0 ≤ 15) }
     requires sound { IfSome shape IsSoundShape }
-    requires frames { (h : ShapeOf) (l : LayoutOf) (n : ℕ) → shape ≡ Some h → kept.layout ≡ Some l → reply ≡ Frames n → (length kept.bytes.items % h.frame_bytes ≡ 0) × (n * h.frame_bytes ≤ length kept.bytes.items) }
-    ensures call { ForSome client (λ c. slice_get calls.new c.0 ≡ (if is_asleep reply then Some (Some kept) else slice_get calls.old c.0)) }
+    requires frames { (h : ShapeOf) (l : LayoutOf) (n : ℕ) → shape ≡ Some h → kept.old.layout ≡ Some l → reply ≡ Frames n → (length kept.old.bytes.items % h.frame_bytes ≡ 0) × (n * h.frame_bytes ≤ length kept.old.bytes.items) }
+    ensures call { ForSome client (λ c. slice_get calls.new c.0 ≡ (if is_asleep reply then Some (Some kept.old) else slice_get calls.old c.0)) }
     ensures calls { (k : ℕ) → ForSome client (λ c. k ≢ c.0) → slice_get calls.new k ≡ slice_get calls.old k }
-    ensures result { ForSome client (λ c. slot_bytes (slice_get results.new c.0) ≡ bytes_told reply kept.layout shape kept.bytes.items (slot_bytes (slice_get results.old c.0))) }
+    ensures result { ForSome client (λ c. slot_bytes (slice_get results.new c.0) ≡ bytes_told reply kept.old.layout shape kept.old.bytes.items (slot_bytes (slice_get results.old c.0))) }
     ensures results { (k : ℕ) → ForSome client (λ c. k ≢ c.0) → slice_get results.new k ≡ slice_get results.old k }
 {
     if let Some(client) = client {
@@ -107,7 +107,7 @@ pub(crate) fn end_going(
     client: ClientId,
     reply: Reply,
     shape: Option<Shape>,
-    kept: Kept,
+    mut kept: Kept,
 )
     requires client { client.0 ≤ 15 }
     requires sound { IfSome shape IsSoundShape }
@@ -121,5 +121,5 @@ pub(crate) fn end_going(
         calls[client.0 as usize] = Some(kept);
         return;
     }
-    end_call(calls, results, client, reply, shape, kept);
+    end_call(calls, results, client, reply, shape, &mut kept);
 }

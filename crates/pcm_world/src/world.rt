@@ -10,7 +10,7 @@ ghost use Rattle.pcm_stream.specs.StandsFor.{StandsFor};
 ghost use Rattle.pcm_group.specs.Turn.{is_card_event};
 ghost use Rattle.pcm_world.specs.Stands.{AreWorld};
 
-use crate::bytes::lent;
+use crate::bytes::lend;
 use crate::calls::{Kept, layout_read};
 use crate::groups::Groups;
 use crate::links::{is_closed, link, no_such, told, unlink};
@@ -34,10 +34,11 @@ pub(crate) struct Taken {
 /// world of the model.
 #[derive(Drop)]
 pub struct World {
-    alloc: Global,
     long_max: u64,
     groups: Groups,
     calls: [Option<Kept>; 16],
+    // the call that began last; the next one takes its memory
+    current: Kept,
     results: [Option<Vec<u8>>; 16],
     taken: Option<Taken>,
     ghost long: { long_max < 2 ^ 36 },
@@ -62,10 +63,10 @@ impl World {
         ensures moved { (k : SubIdOf) → moved_in result k ≡ [] }
     {
         World {
-            alloc,
             long_max: FIRST_LONG_MAX,
             groups: Groups::new(alloc),
             calls: Default::default(),
+            current: Kept::new(alloc),
             results: Default::default(),
             taken: None,
         }
@@ -215,22 +216,19 @@ impl World {
         ensures taken { self.new.taken ≡ self.old.taken }
     {
         let shape = self.groups.shape(event.sub);
-        let Ok(bytes) = lent(self.alloc, event.call, shape, bytes) else {
+        let Ok(()) = lend(&mut self.current.bytes, event.call, &shape, bytes) else {
             return told(Reply::Memory, None);
         };
-        let mut kept = Kept {
-            sub: event.sub,
-            layout: layout_read(event.call),
-            bytes,
-        };
-        let told = in_group(&mut self.groups, place, event, &mut kept.bytes);
+        self.current.sub = event.sub;
+        self.current.layout = layout_read(event.call);
+        let told = in_group(&mut self.groups, place, event, &mut self.current.bytes);
         end(
             &mut self.calls,
             &mut self.results,
             event.client,
             told.reply,
             shape,
-            kept,
+            &mut self.current,
         );
         told
     }

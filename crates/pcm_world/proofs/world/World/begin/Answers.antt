@@ -46,7 +46,7 @@ end-requires-clause-frames c = λ z l n of lay is.
     let e = c.args.event.now in
     let told : c.in_group-told.result.reply ≢ reply.Memory = (λ q. let two : reply.Frames n ≡ reply.Memory = sym is ∙ q in let no : ⊥ = cc in no) in
     let first : ((w : World) × AreWorld c.args.self.now.long_max c.args.self.now.groups.items.items c.args.self.now.calls w) → AreFirst z n c.in_group-told.new.io.items = (λ (w : (w : World) × AreWorld c.args.self.now.long_max c.args.self.now.groups.items.items c.args.self.now.calls w).
-    lent-first c.args.self.now.long_max c.args.self.now.groups.items.items c.in_group-told.new.groups.items.items c.args.self.now.calls w.0 e.call e.client e.sub c.shape-shape.result c.args.bytes.now c.in-Ok.bytes.items c.in_group-told.new.io.items c.in_group-told.result
+    lent-first c.args.self.now.long_max c.args.self.now.groups.items.items c.in_group-told.new.groups.items.items c.args.self.now.calls w.0 e.call e.client e.sub c.shape-shape.result c.args.bytes.now c.lend.new.io.items c.in_group-told.new.io.items c.in_group-told.result
     (record {
       before = record {
         world = w.1;
@@ -65,16 +65,16 @@ end-requires-clause-frames c = λ z l n of lay is.
       size = c.in_group-told.ensures.size;
       bytes = c.in_group-told.ensures.bytes w.0.groups w.1.groups told;
       loaded = c.in_group-told.ensures.loaded w.0.groups w.1.groups;
-    }) z l n of (sym c.layout_read.ensures ∙ lay) is) in
+    }) z l n of (sym c.layout_read-self.ensures ∙ lay) is) in
     let few : nat_le (n * z.frame_bytes) (length c.in_group-told.new.io.items) ≡ true = ∥∥₁_elim c.args.self.now.stands (Coded-set coded_bool _ _) (λ w. let f = (first w).count in grind (arith, nat_tests, f)) in
     (∥∥₁_elim c.args.self.now.stands (Coded-set coded_ℕ _ _) (λ w. (first w).whole), grind (arith, nat_tests, few))
 
-pub invariant_of-self : goal.invariant_of-self
-invariant_of-self c = record {
+pub invariant_of-self-2 : goal.invariant_of-self-2
+invariant_of-self-2 c = record {
   long = c.args.self.now.long;
   stands = ∥∥₁_map c.args.self.now.stands (λ w.
       let e = c.args.event.now in
-      let q : Kept = record { sub = e.sub; layout = c.layout_read.result; bytes = c.in_group-told.new.io } in
+      let q : Kept = record { sub = e.sub; layout = c.layout_read-self.result; bytes = c.in_group-told.new.io } in
       let n = c.args.self.now.long_max in
       let gs = c.args.self.now.groups.items.items in
       let new = c.in_group-told.new.groups.items.items in
@@ -88,7 +88,7 @@ invariant_of-self c = record {
         | inr told ↦ (
           (in_group e.call (begun (caller_of e.client) e.sub c.args.bytes.now) w.0).world,
           begun-world n gs new calls c.end.new.calls w.0 e.call e.client e.sub c.shape-shape.result c.args.bytes.now q
-              (lent-step n gs new calls w.0 e.call e.client e.sub c.shape-shape.result c.args.bytes.now c.in-Ok.bytes.items c.in_group-told.new.io.items c.in_group-told.result
+              (lent-step n gs new calls w.0 e.call e.client e.sub c.shape-shape.result c.args.bytes.now c.lend.new.io.items c.in_group-told.new.io.items c.in_group-told.result
               (record {
                 before = record {
                   world = w.1;
@@ -107,7 +107,7 @@ invariant_of-self c = record {
                 size = c.in_group-told.ensures.size;
                 bytes = c.in_group-told.ensures.bytes w.0.groups w.1.groups told;
                 loaded = c.in_group-told.ensures.loaded w.0.groups w.1.groups;
-              }) q c.end.new.calls refl c.layout_read.ensures refl (record { call = c.end.ensures.call; others = c.end.ensures.calls })),
+              }) q c.end.new.calls refl c.layout_read-self.ensures refl (record { call = c.end.ensures.call; others = c.end.ensures.calls })),
         )
       ]);
 }
@@ -115,12 +115,12 @@ invariant_of-self c = record {
 pub returns-clause-answered : goal.returns-clause-answered
 returns-clause-answered c = λ w is told.
     let e = c.args.event.now in
-    let q : Kept = record { sub = e.sub; layout = c.layout_read.result; bytes = c.in_group-told.new.io } in
+    let q : Kept = record { sub = e.sub; layout = c.layout_read-self.result; bytes = c.in_group-told.new.io } in
     let n = c.args.self.now.long_max in
     let gs = c.args.self.now.groups.items.items in
     let new = c.in_group-told.new.groups.items.items in
     let calls = c.args.self.now.calls in
-    let s : IsLentStep n gs new calls w e.call e.client e.sub c.shape-shape.result c.args.bytes.now c.in-Ok.bytes.items c.in_group-told.new.io.items c.in_group-told.result = record {
+    let s : IsLentStep n gs new calls w e.call e.client e.sub c.shape-shape.result c.args.bytes.now c.lend.new.io.items c.in_group-told.new.io.items c.in_group-told.result = record {
       before = record {
         world = is;
         numbers = c.args.self.now.groups.numbered;
@@ -139,17 +139,17 @@ returns-clause-answered c = λ w is told.
       bytes = c.in_group-told.ensures.bytes w.groups is.groups told;
       loaded = c.in_group-told.ensures.loaded w.groups is.groups;
     } in
-    let step = lent-step n gs new calls w e.call e.client e.sub c.shape-shape.result c.args.bytes.now c.in-Ok.bytes.items c.in_group-told.new.io.items c.in_group-told.result s q c.end.new.calls refl c.layout_read.ensures refl
+    let step = lent-step n gs new calls w e.call e.client e.sub c.shape-shape.result c.args.bytes.now c.lend.new.io.items c.in_group-told.new.io.items c.in_group-told.result s q c.end.new.calls refl c.layout_read-self.ensures refl
     (record { call = c.end.ensures.call; others = c.end.ensures.calls }) in
     record {
-      told = lent-told n gs new calls w e.call e.client e.sub c.shape-shape.result c.args.bytes.now c.in-Ok.bytes.items c.in_group-told.new.io.items c.in_group-told.result s;
+      told = lent-told n gs new calls w e.call e.client e.sub c.shape-shape.result c.args.bytes.now c.lend.new.io.items c.in_group-told.new.io.items c.in_group-told.result s;
       world = begun-world n gs new calls c.end.new.calls w e.call e.client e.sub c.shape-shape.result c.args.bytes.now q step;
       result = λ d. begun-result n gs new calls c.end.new.calls w e.call e.client e.sub c.shape-shape.result c.args.bytes.now q c.args.self.now.results c.end.new.results step
-          (lent-results n gs new calls w e.call e.client e.sub c.shape-shape.result c.args.bytes.now c.in-Ok.bytes.items c.in_group-told.new.io.items c.in_group-told.result s q c.args.self.now.results c.end.new.results
+          (lent-results n gs new calls w e.call e.client e.sub c.shape-shape.result c.args.bytes.now c.lend.new.io.items c.in_group-told.new.io.items c.in_group-told.result s q c.args.self.now.results c.end.new.results
           (record { own = c.end.ensures.result; others = c.end.ensures.results })) d;
     }
 
 pub returns-clause-unread : goal.returns-clause-unread
 returns-clause-unread c = λ d none.
-    let q : Kept = record { sub = c.args.event.now.sub; layout = c.layout_read.result; bytes = c.in_group-told.new.io } in
+    let q : Kept = record { sub = c.args.event.now.sub; layout = c.layout_read-self.result; bytes = c.in_group-told.new.io } in
     results-same c.args.event.now.client c.in_group-told.result.reply q c.shape-shape.result c.args.self.now.results c.end.new.results (record { own = c.end.ensures.result; others = c.end.ensures.results }) none d
