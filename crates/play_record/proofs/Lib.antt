@@ -1,0 +1,13 @@
+pub mod Lone
+pub mod Frames
+pub mod Quiet
+pub mod PlayEvents
+pub mod RecordEvents
+pub mod SetupEvents
+pub mod At
+pub mod Moves
+pub mod Plays
+pub mod Pieces
+pub mod Counts
+pub mod Records
+pub mod Recorded

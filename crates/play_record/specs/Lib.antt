@@ -1,0 +1,4 @@
+pub mod Devices
+pub mod Sounds
+pub mod Stages
+pub mod Steps
