@@ -9,3 +9,8 @@ pub mod OutputLemmas
 pub mod EventLemmas
 pub mod SessionLemmas
 pub mod FeedLemmas
+pub mod RequestLemmas
+pub mod SoundLemmas
+pub mod GenLemmas
+pub mod GenLines
+pub mod MainLemmas

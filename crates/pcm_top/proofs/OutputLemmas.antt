@@ -96,7 +96,7 @@ short-front c script files files_now faults faults_now before now ran = reached-
 pub whole-front : (before now : Option (List ℕ)) (text : List ℕ) → Appends before now text → Appends before now (take (length text) text)
 whole-front before now text h = subst (λ (x : List ℕ). Appends before now x) (sym (take_all (length text) text (omega arith))) h
 
-shelf-status : (e : End) → status_of e ≡ status.ShelfFault → e ≡ ShelfFault
+pub shelf-status : (e : End) → status_of e ≡ status.ShelfFault → e ≡ ShelfFault
 shelf-status ShelfFault h = refl
 shelf-status Whole h = cc
 shelf-status (BadLine line fault) h = cc

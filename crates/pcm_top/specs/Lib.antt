@@ -4,4 +4,8 @@ pub mod Refine
 pub mod Run
 pub mod Script
 pub mod Output
+pub mod Request
+pub mod Sound
+pub mod CodeSound
+pub mod Gen
 pub mod CodeSession

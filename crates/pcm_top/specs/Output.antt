@@ -1,9 +1,8 @@
 -- What the program writes, and the status with which it ends. This project's own.
-use Rattle.std.specs.Prelude.{◌≡◌, ◌≢◌, ◌⊎◌, ℕ, ◌+◌, ◌==◌, List, [], ◌∷◌, ◌++◌, codes, Bool, true, false, if◌then◌else◌}
-use Rattle.std.specs.Str.{bytes_eq}
+use Rattle.std.specs.Prelude.{◌≡◌, ◌≢◌, ◌⊎◌, ℕ, ◌+◌, ◌==◌, List, ◌++◌, Bool, true, false}
 use Rattle.std.specs.Io.KnownBytes.{Appends, Consumes}
 use Rattle.std.specs.declared.option.Option.{Option}
-use Rattle.std.specs.declared.option.Option.TheVariants.{Some, None}
+use Rattle.std.specs.declared.option.Option.TheVariants.{Some}
 use Rattle.pcm_base.specs.Causes.{Rose}
 use Rattle.pcm_io.specs.Shelf.{Files, Stay}
 use Rattle.pcm_text.specs.declared.status.Status.{Status}
@@ -11,7 +10,6 @@ use Rattle.pcm_text.specs.declared.status.Status.TheVariants as status
 use Rattle.pcm_text.specs.declared.status.Which.{Which}
 use Rattle.pcm_text.specs.declared.status.Which.TheVariants as which
 use Rattle.pcm_top.specs.declared.command.Command.{Command}
-use Rattle.pcm_top.specs.declared.command.Command.TheVariants.{Run, Refine}
 use Rattle.pcm_top.specs.declared.end.End.{End}
 use Rattle.pcm_top.specs.declared.end.End.TheVariants as end
 use Rattle.pcm_top.specs.Lines.{lines_of, whole_lines}
@@ -22,15 +20,6 @@ use Rattle.pcm_top.specs.Session.{Session, begin, AreFiles}
 -- the one text begins with the other
 abbrev pub IsFront : List ℕ → List ℕ → Type 0
 IsFront front text = (rest : List ℕ) × (text ≡ front ++ rest)
-
--- the command of one word, and the command that the words of a command line ask for
-abbrev pub command_named : List ℕ → Option Command
-command_named word = if bytes_eq word (codes "run") then Some Run else if bytes_eq word (codes "refine") then Some Refine else None
-
-abbrev pub asked : List (List ℕ) → Option Command
-asked [] = None
-asked (word ∷ []) = command_named word
-asked (word ∷ more ∷ rest) = None
 
 -- the status of a script that nothing cuts short
 abbrev pub status_of : End → Status

@@ -16,7 +16,7 @@ ghost use Rattle.pcm_top.specs.Run.{IsLoaded, feed_answer, feed_refusal as feed_
 ghost use Rattle.pcm_top.specs.Script.{IsFeedEnd, IsFileEnd};
 ghost use Rattle.pcm_top.specs.Session.{Session as Come};
 ghost use Rattle.pcm_world.specs.Shown.{IsWorld, shown};
-ghost use Rattle.wav_file.specs.Grammar.{IsWav};
+ghost use Rattle.wav_file.specs.Grammar.{CanWrite, IsWav};
 ghost use Rattle.wav_file.specs.Recordings.{recording};
 
 use crate::end::{End, Unanswered};
@@ -69,6 +69,7 @@ fn copy_of(name: &Name) -> Name
 fn wav_of(alloc: Global, name: &Name, bytes: &[u8]) -> Result<Wav, Unanswered>
     ensures few { OnOk result (length bytes.now ≤ wav_limit) }
     ensures found { IfOk result (λ wav. IsWav bytes.now (recording wav)) }
+    ensures writable { IfOk result (λ wav. CanWrite (recording wav)) }
     ensures ended { (e : EndOf) → result ≡ Err (Ended e) → IsFileEnd name.now (Some bytes.now) e }
 {
     if bytes.len() >= LOAD_LIMIT {
@@ -81,9 +82,10 @@ fn wav_of(alloc: Global, name: &Name, bytes: &[u8]) -> Result<Wav, Unanswered>
     }
 }
 
-// The recording of the shelf's file.
-fn load<F: Shelf>(alloc: Global, name: &Name, shelf: &mut F) -> Result<Wav, Unanswered>
+/// The recording of the shelf's file. This project's own.
+pub fn load<F: Shelf>(alloc: Global, name: &Name, shelf: &mut F) -> Result<Wav, Unanswered>
     ensures found { IfOk result (λ wav. IsLoaded (F.files shelf.old) name.now (recording wav)) }
+    ensures writable { IfOk result (λ wav. CanWrite (recording wav)) }
     ensures ended { (e : EndOf) → result ≡ Err (Ended e) → IsFeedEnd (F.files shelf.old) name.now e }
     ensures stay { Stay (F.files shelf.old) (F.files shelf.new) }
     ensures rose { result ≡ Err (Ended ShelfFault) → Rose (F.faults shelf.old) (F.faults shelf.new) }

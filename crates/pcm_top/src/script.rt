@@ -1,5 +1,5 @@
 // The lines of a script, executed one after another as they are read.
-ghost use Rattle.std.specs.Prelude.{◌≡◌, ◌≢◌, ◌⊎◌, ◌<◌, ◌+◌, None, Some, true, IfOk, IfErr, IfSome, IfNone, OnErr, IsErrOf};
+ghost use Rattle.std.specs.Prelude.{◌≡◌, ◌≢◌, ◌⊎◌, ◌<◌, ◌+◌, None, Some, Ok, true, false, IfOk, IfErr, IfSome, IfNone, OnErr, IsErrOf};
 ghost use Rattle.std.specs.declared.option.Option.{Option};
 ghost use Rattle.std.specs.Io.KnownBytes.{IsAtEnd};
 ghost use Rattle.pcm_base.specs.Causes.{Rose};
@@ -47,24 +47,36 @@ fn misplaced(command: Command, number: u64, line: &Line) -> LineError
     }
 }
 
-// The line of the command that was read in the place of this number, or why it is none of the command.
-fn line_at<'a>(
+// The line that was read, where the command has it in the place of this number.
+fn line_of<'a>(command: Command, number: u64, read: &'a Result<Line, LineError>) -> Option<&'a Line>
+    ensures read { IfSome result (λ line. read.now ≡ Ok line.now) }
+    ensures has { IfSome result (λ line. has command number line.now ≡ true) }
+    ensures none { IfNone result (IfOk read.now (λ line. has command number line ≡ false)) }
+{
+    match read {
+        Ok(line) if has_line(command, number, line) => Some(line),
+        _ => None,
+    }
+}
+
+// How the script ends at what is no line of the command in the place of this number. It is rare, and stands apart: the
+// compiled code clears room for all that a function may give.
+#[inline(never)]
+fn no_line(
     command: Command,
     number: u64,
     bytes: &[u8],
-    read: &'a Result<Line, LineError>,
-) -> Result<Result<&'a Line, End>, AllocError>
+    read: &Result<Line, LineError>,
+) -> Result<End, AllocError>
     requires says { IfOk read.now (λ line. IsLine bytes.now line) }
     requires faulty { IfErr read.now (λ e. (e ≡ line_error.Memory) ⊎ LineFault bytes.now e) }
-    ensures line { IfOk result (λ r. IfOk r (λ line. IsLine bytes.now line.now)) }
-    ensures has { IfOk result (λ r. IfOk r (λ line. has command number line.now ≡ true)) }
-    ensures stop { IfOk result (λ r. IfErr r (λ ended. IsNoLine command number bytes.now ended)) }
+    requires misplaced { IfOk read.now (λ line. has command number line ≡ false) }
+    ensures { IfOk result (λ ended. IsNoLine command number bytes.now ended) }
 {
     match read {
-        Ok(line) if has_line(command, number, line) => Ok(Ok(line)),
-        Ok(line) => Ok(Err(End::BadLine(number, misplaced(command, number, line)))),
+        Ok(line) => Ok(End::BadLine(number, misplaced(command, number, line))),
         Err(LineError::Memory) => Err(AllocError),
-        Err(fault) => Ok(Err(End::BadLine(number, *fault))),
+        Err(fault) => Ok(End::BadLine(number, *fault)),
     }
 }
 
@@ -98,9 +110,8 @@ fn answer_bytes<F: Shelf>(
         return Ok(None);
     }
     let read = read_line(alloc, bytes);
-    let line = match line_at(command, count + 1, bytes, &read)? {
-        Ok(line) => line,
-        Err(ended) => return Ok(Some(ended)),
+    let Some(line) = line_of(command, count + 1, &read) else {
+        return Ok(Some(no_line(command, count + 1, bytes, &read)?));
     };
     match answer_line(alloc, command, count + 1, line, session, shelf) {
         Ok(()) => Ok(None),

@@ -172,8 +172,9 @@ fn save_line<F: Shelf>(
     Ok(())
 }
 
-// A line of `run`.
-fn run_line<F: Shelf>(
+// A line of `run`, whichever it is.
+#[inline(never)]
+fn any_line<F: Shelf>(
     alloc: Global,
     number: u64,
     line: &Line,
@@ -200,6 +201,30 @@ fn run_line<F: Shelf>(
         _ => unreachable!(),
     }
     Ok(())
+}
+
+// A line of `run`. The events, which are frequent, stand apart: the compiled code clears room for every call that a function
+// names, whichever line comes.
+fn run_line<F: Shelf>(
+    alloc: Global,
+    number: u64,
+    line: &Line,
+    session: &mut Session,
+    shelf: &mut F,
+) -> Result<(), Unanswered>
+    requires built { is_built_at number line.now ≡ true }
+    requires says { Sayable line.now }
+    requires stands { (w : ModelWorld) × IsWorld session.old.world w }
+    ensures ok { (s : Come) → IsSession session.old (F.files shelf.old) s → OnOk result (IsNext Run number line.now s session.new (F.files shelf.new)) }
+    ensures ended { (s : Come) (e : EndOf) → IsSession session.old (F.files shelf.old) s → result ≡ Err (Ended e) → IsStopped Run line.now s session.new.text.items (F.files shelf.new) e }
+    ensures memory { (s : Come) → IsSession session.old (F.files shelf.old) s → result ≡ Err Memory → IsCut Run number line.now s (F.files shelf.new) }
+    ensures rose { result ≡ Err (Ended ShelfFault) → Rose (F.faults shelf.old) (F.faults shelf.new) }
+    ensures calm { result ≢ Err (Ended ShelfFault) → F.faults shelf.new ≡ F.faults shelf.old }
+{
+    match line {
+        Line::Event(event, bytes) => Ok(event_line(number, event, bytes, session)?),
+        _ => any_line(alloc, number, line, session, shelf),
+    }
 }
 
 /// Executes a line of the command. Where it ends the script it has no text. This project's own.

@@ -3,6 +3,7 @@ use super::*;
 use pcm_base::Name;
 use pcm_io::{MemShelf, MemSink, MemSource, Shelf, Source};
 use pcm_text::fault_text;
+use play_record::Deck;
 use std::alloc::{AllocError, Global};
 use std::process::Abort;
 use std::test::Fail;
@@ -63,7 +64,8 @@ fn run(rt: &impl Abort, alloc: Global, calls: &Calls) -> Result<Ran, Fail> {
     let name = Name::of(b"out.wav").expect(rt, "a name");
     let other = Name::of(b"other.wav").expect(rt, "a name");
     assert!(rt; shelf.store(&other, OTHER).is_ok());
-    let status = pcm_main(alloc, &words, &mut source, &mut out, &mut shelf).number();
+    let mut deck = Deck::new(alloc)?;
+    let status = pcm_main(alloc, &words, &mut source, &mut out, &mut shelf, &mut deck).number();
     let stays = shelf.get(&other) == Some(OTHER);
     let file = copy_of(alloc, shelf.get(&name))?;
     let out = out.bytes().to_vec(alloc)?;
@@ -109,7 +111,8 @@ pub(crate) fn told(
     if !file.is_empty() {
         assert!(rt; shelf.store(&name, file).is_ok());
     }
-    let status = pcm_main(alloc, &words, &mut source, &mut out, &mut shelf);
+    let mut deck = Deck::new(alloc)?;
+    let status = pcm_main(alloc, &words, &mut source, &mut out, &mut shelf, &mut deck);
     Ok((out.bytes().to_vec(alloc)?, fault_text(alloc, &status)?))
 }
 
@@ -432,7 +435,8 @@ fn answers_are_written_before_the_script_ends(rt: HostRuntime) -> Result<(), Fai
     let mut source = MemSource::new(bytes, Vec::new(alloc), 64);
     let mut out = MemSink::new(alloc, [2].to_vec(alloc)?);
     let mut shelf = MemShelf::new(alloc, Vec::new(alloc));
-    let status = pcm_main(alloc, &words, &mut source, &mut out, &mut shelf);
+    let mut deck = Deck::new(alloc)?;
+    let status = pcm_main(alloc, &words, &mut source, &mut out, &mut shelf, &mut deck);
     assert_eq!(rt; status.number(), 4);
     assert_eq!(rt; out.bytes().len(), 4096);
     assert_eq!(rt; source.read(&mut [0; 64]), Ok(64));
