@@ -1,4 +1,4 @@
-"""Cases of stores that are cut off: the file is the old one or a new one, and leftovers end no later store."""
+"""Cases of stores that are cut off: the file is the old one or a new one, and leftovers stay and end no later store."""
 
 import os
 import random
@@ -12,9 +12,9 @@ from program import entries, plain_folder, put_files
 from texts import script
 
 NAME = 'out.wav'
-MOST_PARTS = 10
 SEVERAL, AT_ONCE_ROUNDS = 4, 10   # programs at once, and how often
 LONGEST_STORE = 0.002   # seconds from the begin of a store, for signals inside it
+LONGEST_SOUND = 0.02    # the same of a long sound
 
 # What three cards took, of 1 byte to 1 MiB, goes under one name in turn.
 TAKEN = (texts.opened(0, 'duplex', 'p', texts.LARGE) + texts.turns(0, 1, 32, 32768)
@@ -28,6 +28,12 @@ STEPS = 25
 GROWING = script(texts.opened(0, 'duplex', 'p', texts.MIDDLE)
                  + ''.join(turn + 'save s0 out.wav\n' for turn in texts.each_turn(0, STEPS, 1, 4000)))
 LATER = script(texts.SAVED)
+
+# A sound of eight million frames.
+PLAY = ('play', 'in.wav', NAME, '4096', '4')
+
+# What ten stores left that were cut off.
+LEFT = {'.%s.part%d' % (NAME, number): b'of an interrupted store' for number in range(10)}
 
 
 def stored_by(program, source):
@@ -45,28 +51,28 @@ def parts(folder):
     return sorted(name for name in os.listdir(folder) if name.startswith('.' + NAME + '.part'))
 
 
-def started(program, folder, name='script', stdout=subprocess.DEVNULL, stderr=subprocess.DEVNULL):
-    """Starts the program over a script of this folder."""
+def started(program, folder, name='script', words=('run',), stdout=subprocess.DEVNULL, stderr=subprocess.DEVNULL):
+    """Starts a command over a script of this folder."""
     with open(os.path.join(folder, name), 'rb') as stdin:
-        return subprocess.Popen(program.words + ['run'], cwd=folder, stdin=stdin, stdout=stdout, stderr=stderr)
+        return subprocess.Popen(program.words + list(words), cwd=folder, stdin=stdin, stdout=stdout, stderr=stderr)
 
 
-def after(delay):
+def after(delay, words=('run',)):
     """Sends the signal after so long; nobody looks at the output."""
     def cut_off(program, folder, number):
         """The status, and no output."""
-        process = started(program, folder)
+        process = started(program, folder, words=words)
         time.sleep(delay)
         process.send_signal(number)
         return process.wait(), b''
     return cut_off
 
 
-def inside(delay):
+def inside(delay, words=('run',)):
     """Sends the signal so long after a store has begun to write beside the old file."""
     def cut_off(program, folder, number):
         """The status, and no output."""
-        earlier, process = set(parts(folder)), started(program, folder)
+        earlier, process = set(parts(folder)), started(program, folder, words=words)
         while process.poll() is None and not set(parts(folder)) - earlier:
             pass
         end = time.monotonic() + delay
@@ -106,7 +112,7 @@ class Seen:
 
     def __init__(self):
         """Nothing was seen yet."""
-        self.counts = dict.fromkeys(['old', 'new', 'inside a store', 'after the end', 'beside ten leftovers'], 0)
+        self.counts = dict.fromkeys(['old', 'new', 'inside a store', 'after the end', 'left beside it at the end'], 0)
         self.wrong = []
 
     def round(self, what, status, number, file, old, allowed):
@@ -120,9 +126,11 @@ class Seen:
             self.wrong.append('%s: the file is neither the old one nor a new one, it has %d bytes' % (what, len(file)))
 
     def parts(self, earlier, later):
-        """A leftover more tells that the run was cut off inside a store."""
+        """A leftover more tells that the run was cut off inside a store; those before it stay."""
         self.counts['inside a store'] += len(later) > len(earlier)
-        self.counts['beside ten leftovers'] += len(later) == MOST_PARTS
+        self.counts['left beside it at the end'] = len(later)
+        if not set(earlier) <= set(later):
+            self.wrong.append('what another store left is gone')
 
     def told(self, rounds):
         """What the case came to."""
@@ -148,24 +156,25 @@ def one_round(program, folder, seen, what, work):
     seen.wrong += ['%s: %s' % (what, text) for text in later_store(program, folder)]
 
 
-def rounds(program, source, works):
+def rounds(program, source, works, files=None):
     """Cuts runs off one after another in one folder; the works tell the signal, the moment, and the files allowed."""
     seen, count = Seen(), 0
     with plain_folder() as folder:
         put_files(folder, {NAME: texts.OLD, 'other.wav': b'another file', 'script': source, 'later': LATER})
+        put_files(folder, files or {})
         for count, work in enumerate(works, 1):
             one_round(program, folder, seen, 'round %d' % count, work)
     return seen.told(count)
 
 
-def duration(program):
+def duration(program, words=('run',), files=None):
     """How long the stores take, in seconds: the middle one of five times."""
     times = []
     with plain_folder() as folder:
-        put_files(folder, {'script': STORES})
+        put_files(folder, {'script': STORES, **(files or {})})
         for _ in range(5):
             start = time.monotonic()
-            started(program, folder).wait()
+            started(program, folder, words=words).wait()
             times.append(time.monotonic() - start)
     return sorted(times)[2]
 
@@ -204,17 +213,36 @@ def at_each_line(program):
     return rounds(program, GROWING, [(signal.SIGKILL, at_line(count), allowed) for count in range(1, len(lines) + 1)])
 
 
-def at_once(program):
-    """Several programs store under one name at once: each ends well, and the file is one of theirs."""
-    wrong, files = [], versions(program)
-    with plain_folder() as folder:
-        put_files(folder, {NAME: texts.OLD, 'script': STORES})
-        for count in range(1, AT_ONCE_ROUNDS + 1):
-            ends = [process.wait() for process in [started(program, folder) for _ in range(SEVERAL)]]
-            wrong += ['round %d: %s' % (count, ended(status)) for status in ends if status != 0]
-            if entries(folder)[NAME] not in files or parts(folder):
-                wrong.append('round %d: the file is none of theirs, or something is left beside it' % count)
-    return Told(AT_ONCE_ROUNDS * SEVERAL, wrong)
+def at_once(left):
+    """A case of several programs that store under one name at once, beside what other stores left."""
+    def check(program):
+        """Each ends well, the file is one of theirs, and what was left stays."""
+        wrong, files = [], versions(program)
+        with plain_folder() as folder:
+            put_files(folder, {NAME: texts.OLD, 'script': STORES, **left})
+            for count in range(1, AT_ONCE_ROUNDS + 1):
+                ends = [process.wait() for process in [started(program, folder) for _ in range(SEVERAL)]]
+                wrong += ['round %d: %s' % (count, ended(status)) for status in ends if status != 0]
+                now = entries(folder)
+                if now[NAME] not in files:
+                    wrong.append('round %d: the file is none of theirs, it has %d bytes' % (count, len(now[NAME])))
+                if {name: now[name] for name in parts(folder)} != left:
+                    wrong.append('round %d: what stands beside it has changed' % count)
+        return Told(AT_ONCE_ROUNDS * SEVERAL, wrong)
+    return check
+
+
+def plays(count):
+    """A case of a long sound that is played: half of the moments by chance, half from the begin of its store on."""
+    def check(program):
+        """The file is the old one or that of the whole sound."""
+        files = {'in.wav': texts.recording(8 << 20)}
+        chance, length = random.Random(3), duration(program, PLAY, files)
+        allowed = [program.calm(PLAY, b'', files).after[NAME]]
+        moments = [after(chance.uniform(0, length), PLAY) for _ in range(count // 2)]
+        moments += [inside(i * LONGEST_SOUND / (count // 2), PLAY) for i in range(count // 2)]
+        return rounds(program, STORES, [(signal.SIGKILL, moment, lambda output: allowed) for moment in moments], files)
+    return check
 
 
 KILLS = [
@@ -222,5 +250,7 @@ KILLS = [
     Case('stores that SIGKILL cuts off from their begin on', inside_stores(300)),
     Case('stores that SIGKILL cuts off at each line of output', at_each_line),
     Case('stores that SIGTERM, SIGINT and SIGHUP cut off', at_random([signal.SIGTERM, signal.SIGINT, signal.SIGHUP], 60)),
-    Case('four programs that store under one name at once', at_once),
+    Case('plays that SIGKILL cuts off', plays(100), ('play',)),
+    Case('four programs that store under one name at once', at_once({})),
+    Case('four programs that store at once beside what ten stores left', at_once(LEFT)),
 ]

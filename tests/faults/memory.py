@@ -144,6 +144,12 @@ def in_file_commands(name):
     return Case('memory for ' + name, from_the_start(words, b'', texts.LONG_FILES, ('out.wav',)), (name,))
 
 
+def each_growth_of(name):
+    """A command on files, in which every growth is refused in turn."""
+    return Case('each growth of %s refused in turn' % name, each_growth(texts.FILE_COMMANDS[name], b'', texts.BOTH, ('out.wav',)),
+                (name, 'gdb'))
+
+
 # Words, source, files, and the files that it stores.
 EVERYTHING = (('run',), script(texts.GROWTH), texts.BOTH, ('out.wav', 'two.wav', 'three.wav'))
 REFINING = (('refine',), script(texts.SPACES * 2000), {}, ())
@@ -164,4 +170,6 @@ MEMORY_CASES = [
     Case('each growth refused in turn', each_growth(*EVERYTHING), ('gdb',)),
     in_file_commands('play'),
     in_file_commands('capture'),
+    each_growth_of('play'),
+    each_growth_of('capture'),
 ]

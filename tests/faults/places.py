@@ -8,7 +8,7 @@ import stat
 
 import texts
 from ends import WRITE, closed_pipe, file_limit, opens
-from judge import CALM, EITHER, GONE, WHOLE, Lines, Run, Wanted, case
+from judge import CALM, GONE, WHOLE, Lines, Run, Wanted, case
 from program import Fault, after_first_line, disk, send, wait_until_asleep
 from texts import BOTH, IN_WAV, script
 
@@ -226,8 +226,9 @@ FILES = [
             for target, end in (('nothing.wav', MISSING), ('.', FAULT), ('in.wav', FAULT), ('other.wav', NOT_RIFF),
                                 ('/proc/self/mem', FAULT))]),
     case('a store beside what ten interrupted ones left',
-         [Run(SAVED, Fault(), Wanted(0, '', WHOLE, {'out.wav': CALM, '.out.wav.part0': GONE}), {**BOTH, **PARTS})]),
-    case('a store where ten folders stand in its way', [save_fails(Fault(change=folders_as_parts))]),
+         [Run(SAVED, Fault(), Wanted(0, '', WHOLE, {'out.wav': CALM}), {**BOTH, **PARTS})]),
+    case('a store beside ten folders of such names',
+         [Run(SAVED, Fault(change=folders_as_parts), Wanted(0, '', WHOLE, {'out.wav': CALM}), BOTH)]),
 ]
 
 # The faults that a command on files meets: a name, the fault, how the command ends, the files that may change, and needs.
@@ -240,8 +241,8 @@ FILE_FAULTS = [
     ('a pipe to write', Fault(change=in_place('out.wav', os.mkfifo)), FAULT, {}, ()),
     ('a full disk', Fault(child=file_limit(100)), FAULT, {}, ()),
     ('a read-only disk', Fault(place=disk('size=64m'), change=read_only_disk), FAULT, {}, ('mount',)),
-    ('a full device as standard output', Fault(stdout=opens('/dev/full', os.O_WRONLY)), WRITE, {'out.wav': EITHER}, ()),
-    ('an output that nobody reads', Fault(stdout=closed_pipe), WRITE, {'out.wav': EITHER}, ()),
+    ('a full device as standard output', Fault(stdout=opens('/dev/full', os.O_WRONLY)), WRITE, {'out.wav': CALM}, ()),
+    ('an output that nobody reads', Fault(stdout=closed_pipe), WRITE, {'out.wav': CALM}, ()),
 ]
 
 

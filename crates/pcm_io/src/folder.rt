@@ -14,9 +14,10 @@ use std::str::from_utf8;
 
 /// The files of a folder. No file is loaded exactly where the system says "not found"; any other error counts, as that
 /// of a folder in a file's place, or of a file that may not be read or written. A store writes beside the file, under a
-/// name that begins with a dot and ends in `.part0` to `.part9`, and then renames, so that no half of a file stands under
-/// the name; it touches no other file. It replaces a regular file, a symbolic link to one or to nothing (what a link points
-/// to stays), or nothing. A pipe or a device is neither loaded nor replaced, but refused at once. This project's own.
+/// name that begins with a dot and ends in `.part` and the first free number, and then renames, so that no half of a file
+/// stands under the name; it touches no other file, and what a store that was cut off has left stays. It replaces a regular
+/// file, a symbolic link to one or to nothing (what a link points to stays), or nothing. A pipe or a device is neither
+/// loaded nor replaced, but refused at once. This project's own.
 #[derive(Drop)]
 pub struct FolderShelf<'a, F> {
     files: F,
@@ -24,9 +25,6 @@ pub struct FolderShelf<'a, F> {
     folder: &'a str,
     faults: u64,
 }
-
-// A store that was cut off may have left its file: the next takes the next number. Where all are taken, the first is old.
-const PART_LIMIT: u8 = 10;
 
 fn text_of(name: &Name) -> Result<&str, ShelfError> {
     match from_utf8(name.as_slice()) {
@@ -70,7 +68,7 @@ fn may_write<F: Files>(files: &F, path: &PathBuf) -> bool {
     }
 }
 
-fn part_path(alloc: Global, folder: &str, name: &str, number: u8) -> Result<PathBuf, AllocError> {
+fn part_path(alloc: Global, folder: &str, name: &str, number: u64) -> Result<PathBuf, AllocError> {
     let part = format!(in alloc; ".{name}.part{number}")?;
     path_in(alloc, folder, part.as_str())
 }
@@ -84,24 +82,21 @@ fn create_part<F: Files>(files: &F, path: &PathBuf) -> Result<Option<F::File>, S
     }
 }
 
+// A new file beside that of the name. What stands under a number is of another store, one that was cut off or one that
+// still writes: it is left alone, so that each store renames the file that it wrote.
 fn create_beside<F: Files>(
     files: &F,
     alloc: Global,
     folder: &str,
     name: &str,
 ) -> Result<(PathBuf, F::File), ShelfError> {
-    for number in 0..PART_LIMIT {
+    for number in 0..u64::MAX {
         let path = part_path(alloc, folder, name, number)?;
         if let Some(file) = create_part(files, &path)? {
             return Ok((path, file));
         }
     }
-    let path = part_path(alloc, folder, name, 0)?;
-    let _ = fs::remove_file(files, &path);
-    match create_part(files, &path)? {
-        Some(file) => Ok((path, file)),
-        None => Err(ShelfError::Failed),
-    }
+    Err(ShelfError::Failed)
 }
 
 impl<'a, F: Files> FolderShelf<'a, F> {

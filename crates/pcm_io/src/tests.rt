@@ -117,7 +117,7 @@ fn a_folder_holds_what_was_stored(rt: HostRuntime) -> Result<(), Fail> {
     let kept = shelf.load(&other)?.ok_or("no other file")?;
     assert_eq!(rt; kept.as_slice(), b"stays".as_slice());
     assert!(rt; !fs::exists(&rt, "shelf/.one.wav.part0")?);
-    // What ten interrupted stores left is no hindrance.
+    // What ten interrupted stores left is no hindrance, and stays.
     for number in 0..10u8 {
         let left = format!(in rt.alloc(); "shelf/.one.wav.part{number}")?;
         File::create_new(&rt, left.as_str())?;
@@ -125,6 +125,8 @@ fn a_folder_holds_what_was_stored(rt: HostRuntime) -> Result<(), Fail> {
     assert_eq!(rt; shelf.store(&one, b"third"), Ok(()));
     let loaded = shelf.load(&one)?.ok_or("no file")?;
     assert_eq!(rt; loaded.as_slice(), b"third".as_slice());
+    assert!(rt; fs::exists(&rt, "shelf/.one.wav.part9")?);
+    assert!(rt; !fs::exists(&rt, "shelf/.one.wav.part10")?);
     fs::remove_dir_all(&rt, folder)?;
     Ok(())
 }
