@@ -7,6 +7,8 @@ pub mod HexFront
 pub mod KindLaws
 pub mod KeywordLaws
 pub mod GrammarLaws
+pub mod Spaced
 pub mod Spellings
 pub mod SayableLaws
 pub mod HexPairs
+pub mod AllKeywords

@@ -9,3 +9,4 @@ pub mod Reading
 pub mod Hex
 pub mod Spelling
 pub mod Skipped
+pub mod PieceKinds

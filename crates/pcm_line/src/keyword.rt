@@ -1,5 +1,5 @@
 // The first pieces of lines.
-ghost use Rattle.std.specs.Prelude.{◌≡◌};
+ghost use Rattle.std.specs.Prelude.{◌≡◌, drop};
 ghost use Rattle.pcm_line.specs.Tables.{entry_for, keyword_for, four_letters, words_of_four, other_words_of_four, words_of_five, words_of_six, words_of_seven, short_words};
 
 /// The first piece of a line, which decides its form. Each is printed as its name in small letters. This project's own.
@@ -105,14 +105,10 @@ pub enum Keyword {
     Wire,
 }
 
-fn word_of_four(piece: &[u8]) -> Option<Keyword>
-    ensures { result ≡ entry_for piece.now words_of_four }
+fn rarer_word_of_four(piece: &[u8]) -> Option<Keyword>
+    ensures { result ≡ entry_for piece.now (drop 2 words_of_four) }
 {
-    if piece == b"move".as_slice() {
-        Some(Keyword::Move)
-    } else if piece == b"page".as_slice() {
-        Some(Keyword::Page)
-    } else if piece == b"poll".as_slice() {
+    if piece == b"poll".as_slice() {
         Some(Keyword::Poll)
     } else if piece == b"sync".as_slice() {
         Some(Keyword::Sync)
@@ -128,6 +124,16 @@ fn word_of_four(piece: &[u8]) -> Option<Keyword>
         Some(Keyword::Link)
     } else {
         None
+    }
+}
+
+fn word_of_four(piece: &[u8]) -> Option<Keyword>
+    ensures { result ≡ entry_for piece.now words_of_four }
+{
+    match piece {
+        b"move" => Some(Keyword::Move),
+        b"page" => Some(Keyword::Page),
+        _ => rarer_word_of_four(piece),
     }
 }
 

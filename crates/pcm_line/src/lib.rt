@@ -8,14 +8,19 @@
 //! It stands on `pcm_base` for the values. The language is this project's own; its words are those of ALSA.
 #![tactic(auto)]
 
+mod area;
 #[cfg(test)]
 mod cut_tests;
 mod error;
+mod form;
 mod hex;
 mod keyword;
 mod kinds;
 mod laws;
 mod line;
+mod piece_kind;
+#[cfg(test)]
+mod piece_tests;
 mod pieces;
 mod print;
 mod read;
@@ -25,10 +30,12 @@ mod tests;
 mod typed;
 mod words;
 
+pub use area::write_before;
 pub use error::LineError;
 pub use keyword::Keyword;
 pub use laws::{one_answer, one_spelling, sayable_lines};
 pub use line::Line;
-pub use print::print_line;
+pub use piece_kind::PieceKind;
+pub use print::{print_line, push_line};
 pub use read::read_line;
 pub use skipped::is_skipped;

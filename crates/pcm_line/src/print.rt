@@ -1,5 +1,5 @@
 // Lines printed: the keyword, then a space and the spelling of each further value.
-ghost use Rattle.std.specs.Prelude.{◌≡◌, ◌<◌, ◌++◌, ◌∷◌, OnOk, IfOk};
+ghost use Rattle.std.specs.Prelude.{◌≡◌, ◌<◌, ◌≤◌, ◌+◌, ◌++◌, ◌∷◌, OnOk, IfOk, drop, length};
 ghost use Rattle.std.specs.List.{AllByRecursion};
 ghost use Rattle.pcm_line.specs.Kinds.{OfNumber, OfClient, OfSub, spelled};
 ghost use Rattle.pcm_line.specs.Pieces.{joined};
@@ -7,10 +7,11 @@ ghost use Rattle.pcm_line.specs.Grammar.{IsLine};
 ghost use Rattle.pcm_line.specs.Sayable.{Sayable, IsWellTyped};
 ghost use Rattle.pcm_line.specs.Spelling;
 
+use crate::area::write_before;
 use crate::hex;
 use crate::line::Line;
 use crate::words::{access_text, call_word, dir_text, format_text, mode_text, model_text};
-use itoa::Buffer;
+use itoa::{Buffer, write_digits};
 use pcm_base::{Call, ClientId, Config, Event, Space, Span, SubId, SwParams};
 use std::alloc::{AllocError, Global};
 
@@ -71,23 +72,44 @@ fn push_software(out: &mut Vec<u8>, software: SwParams) -> Result<(), AllocError
     push_number(out, software.silence_size)
 }
 
-fn push_span(out: &mut Vec<u8>, span: Span) -> Result<(), AllocError>
-    ensures { OnOk result (out.new.items ≡ (out.old.items ++ 32 ∷ spelled OfNumber span.least) ++ 32 ∷ spelled OfNumber span.most) }
+/// Room for a space and the digits of each number of a space.
+const SPACE_ROOM: usize = 252;
+
+/// Writes a space and the number before what stands from `end` on, and gives the place where they start.
+#[inline(always)]
+fn write_number_before(area: &mut [u8], end: usize, number: u64) -> usize
+    requires room { 21 ≤ end }
+    requires inside { end ≤ length area.old }
+    ensures start { end ≤ result + 21 }
+    ensures written { drop result area.new ≡ 32 ∷ (spelled OfNumber number ++ drop end area.old) }
 {
-    push_number(out, span.least)?;
-    push_number(out, span.most)
+    let start = write_digits(number, area, end);
+    write_before(area, start, b" ")
+}
+
+#[inline(always)]
+fn write_span_before(area: &mut [u8], end: usize, span: Span) -> usize
+    requires room { 42 ≤ end }
+    requires inside { end ≤ length area.old }
+    ensures start { end ≤ result + 42 }
+    ensures written { drop result area.new ≡ 32 ∷ (spelled OfNumber span.least ++ 32 ∷ (spelled OfNumber span.most ++ drop end area.old)) }
+{
+    let start = write_number_before(area, end, span.most);
+    write_number_before(area, start, span.least)
 }
 
 fn push_space(out: &mut Vec<u8>, space: &Space) -> Result<(), AllocError>
     ensures { OnOk result (out.new.items ≡ joined out.old.items (Spelling.space_texts space.now)) }
 {
-    push_number(out, space.accesses)?;
-    push_number(out, space.formats)?;
-    push_span(out, space.channels)?;
-    push_span(out, space.rate)?;
-    push_span(out, space.period)?;
-    push_span(out, space.periods)?;
-    push_span(out, space.buffer)
+    let mut area = [0; SPACE_ROOM];
+    let buffer = write_span_before(&mut area, SPACE_ROOM, space.buffer);
+    let periods = write_span_before(&mut area, buffer, space.periods);
+    let period = write_span_before(&mut area, periods, space.period);
+    let rate = write_span_before(&mut area, period, space.rate);
+    let channels = write_span_before(&mut area, rate, space.channels);
+    let formats = write_number_before(&mut area, channels, space.formats);
+    let accesses = write_number_before(&mut area, formats, space.accesses);
+    out.extend_from_slice(&area[accesses..])
 }
 
 /// Appends what follows client and substream.
@@ -151,7 +173,7 @@ fn push_event(out: &mut Vec<u8>, event: &Event, bytes: &[u8]) -> Result<(), Allo
 }
 
 /// Appends what follows the keyword.
-fn push_line(out: &mut Vec<u8>, line: &Line) -> Result<(), AllocError>
+fn push_values(out: &mut Vec<u8>, line: &Line) -> Result<(), AllocError>
     ensures pieces { OnOk result (out.new.items ≡ joined out.old.items (Spelling.line_texts line.now)) }
     ensures typed { OnOk result (IsWellTyped line.now) }
 {
@@ -203,6 +225,15 @@ fn line_word(line: &Line) -> &'static [u8]
     }
 }
 
+/// Puts the one spelling of a line at the end of the text, without a line feed, as `print_line` gives it.
+pub fn push_line(text: &mut Vec<u8>, line: &Line) -> Result<(), AllocError>
+    ensures text { OnOk result (text.new.items ≡ text.old.items ++ Spelling.spelling line.now) }
+    ensures line { OnOk result (Sayable line.now → IsLine (Spelling.spelling line.now) line.now) }
+{
+    text.extend_from_slice(line_word(line))?;
+    push_values(text, line)
+}
+
 /// Most lines fit: room for words and numbers, and for two digits of each byte.
 fn room(line: &Line) -> usize {
     match line {
@@ -217,7 +248,6 @@ pub fn print_line(alloc: Global, line: &Line) -> Result<Vec<u8>, AllocError>
     ensures { IfOk result (λ bytes. Sayable line.now → IsLine bytes.items line.now) }
 {
     let mut out = Vec::with_capacity(alloc, room(line))?;
-    out.extend_from_slice(line_word(line))?;
     push_line(&mut out, line)?;
     Ok(out)
 }

@@ -1,9 +1,9 @@
-use Rattle.std.proofs.Common.{◌≡◌, rules}
+use Rattle.std.proofs.Common.{◌≡◌, ◌++◌, ap, ◌∙◌}
 use Rattle.pcm_line.specs.Spelling.{spelling}
-use Rattle.pcm_line.proofs.SayableLaws.{line-spelled}
 use Rattle.pcm_line.proofs.print.print_line.Goals as goal
 
 pub returns : goal.returns
 returns c =
-    let same : c.push_line.new.out.items ≡ spelling c.args.line.now = search rules in
-    λ say. rw same (line-spelled c.args.line.now c.in_ok-push_line.ensures.typed say)
+    let text = spelling c.args.line.now in
+    let same : c.push_line.new.text.items ≡ text = c.in_ok-push_line.ensures.text ∙ ap (λ old. old ++ text) c.in_ok-out.ensures.items in
+    λ say. rw same (c.in_ok-push_line.ensures.line say)
