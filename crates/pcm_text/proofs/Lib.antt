@@ -2,3 +2,4 @@ pub mod FrontLemmas
 pub mod WokenLemmas
 pub mod NameLemmas
 pub mod HexBlocks
+pub mod LengthLemmas

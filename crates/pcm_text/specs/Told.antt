@@ -47,6 +47,12 @@ abbrev pub shown_bytes : Option (List ℕ) → List ℕ
 shown_bytes (Some bytes) = codes " " ++ hex_text bytes
 shown_bytes None = []
 
+-- what an answer shows beside its own text
+abbrev pub bytes_text : Reply → Option (List ℕ) → List ℕ
+bytes_text (reply.Frames n) bytes = shown_bytes bytes
+bytes_text (reply.Moved n) bytes = shown_bytes bytes
+bytes_text r _ = []
+
 -- bytes stand behind a count of frames alone
 abbrev pub answer_text : Reply → Option (List ℕ) → List ℕ
 answer_text (reply.Frames n) bytes = reply_text (reply.Frames n) ++ shown_bytes bytes

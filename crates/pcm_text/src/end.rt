@@ -3,7 +3,6 @@ ghost use Rattle.std.specs.Prelude.{◌≡◌, IfOk};
 ghost use Rattle.pcm_text.specs.End.{end_line};
 
 use crate::push::push_counted;
-use crate::reply::push_pointers;
 use crate::{push_text, state_name};
 use pcm_base::{Page, SubId};
 use std::alloc::{AllocError, Global};
@@ -17,8 +16,8 @@ pub fn end_text(alloc: Global, sub: SubId, page: &Page, moved: u64) -> Result<Ve
     push_counted(&mut text, b"end s", u64::from(sub.0))?;
     push_text(&mut text, b" ")?;
     push_text(&mut text, state_name(page.state).as_bytes())?;
-    push_text(&mut text, b" ")?;
-    push_pointers(&mut text, page)?;
+    push_counted(&mut text, b" hw ", page.hw)?;
+    push_counted(&mut text, b" appl ", page.appl)?;
     push_counted(&mut text, b" moved ", moved)?;
     push_text(&mut text, b"\n")?;
     Ok(text)

@@ -1,6 +1,6 @@
 // The names of states and errors.
 ghost use Rattle.std.specs.Prelude.{◌≡◌};
-ghost use Rattle.pcm_text.specs.Names.{state_name, errno_name, shown_state};
+ghost use Rattle.pcm_text.specs.Names.{state_name, errno_name};
 
 use pcm_base::{Errno, State};
 
@@ -19,16 +19,6 @@ pub fn state_name(state: State) -> &'static str
         State::Paused => "PAUSED",
         State::Suspended => "SUSPENDED",
         State::Disconnected => "DISCONNECTED",
-    }
-}
-
-// A line that names no substream shows `-`.
-pub(crate) fn shown_state(state: Option<State>) -> &'static str
-    ensures { result.now ≡ shown_state state }
-{
-    match state {
-        Some(state) => state_name(state),
-        None => "-",
     }
 }
 

@@ -1,6 +1,5 @@
 // Parts that are put at the end of a text.
 ghost use Rattle.std.specs.Prelude.{◌≡◌, ◌++◌, OnOk, OnErr, decimal};
-ghost use Rattle.std.specs.Fmt.{signed_decimal};
 ghost use Rattle.pcm_text.specs.Front.{KeepsFront};
 
 use itoa::Buffer;
@@ -24,13 +23,6 @@ pub fn push_number(text: &mut Vec<u8>, number: u64) -> Result<(), AllocError>
     if number < 10 {
         return Ok(text.push(b'0' + number as u8)?);
     }
-    push_text(text, Buffer::new().format(number).as_bytes())
-}
-
-pub(crate) fn push_signed(text: &mut Vec<u8>, number: i64) -> Result<(), AllocError>
-    ensures ok { OnOk result (text.new.items ≡ text.old.items ++ signed_decimal number) }
-    ensures err { OnErr result (text.new.items ≡ text.old.items) }
-{
     push_text(text, Buffer::new().format(number).as_bytes())
 }
 

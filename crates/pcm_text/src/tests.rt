@@ -218,6 +218,19 @@ fn lines_follow_one_another(rt: HostRuntime) -> Result<(), Fail> {
 }
 
 #[test]
+fn parts_of_a_line_are_added(rt: HostRuntime) -> Result<(), Fail> {
+    let mut text = Vec::new(rt.alloc());
+    push_text(&mut text, b"give ")?;
+    push_hex(&mut text, &[0x0a, 0xff])?;
+    push_text(&mut text, b" ")?;
+    push_number(&mut text, 10)?;
+    push_text(&mut text, b" ")?;
+    push_reply(&mut text, &Reply::Frames(4), None)?;
+    assert_eq!(rt; text.as_slice(), b"give 0aff 10 frames 4".as_slice());
+    Ok(())
+}
+
+#[test]
 fn a_playback_stream_at_the_end(rt: HostRuntime) -> Result<(), Fail> {
     let text = end_text(rt.alloc(), SubId(0), &PAGE, 3)?;
     assert_eq!(rt;
