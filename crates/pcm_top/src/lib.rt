@@ -13,6 +13,8 @@ mod carry;
 mod command;
 mod end;
 mod event;
+#[cfg(test)]
+mod fault_tests;
 mod feed;
 mod generated;
 mod give;

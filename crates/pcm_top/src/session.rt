@@ -249,7 +249,7 @@ pub fn answer_line<F: Shelf>(
     match (command, line) {
         (Command::Run, _) => run_line(alloc, number, line, session, shelf),
         (Command::Refine, Line::Space(model, space)) => {
-            push_answer(alloc, &mut session.text, *model, space)?;
+            push_answer(&mut session.text, *model, space)?;
             Ok(())
         }
         _ => unreachable!(),

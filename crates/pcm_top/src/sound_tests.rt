@@ -9,18 +9,18 @@ use std::process::Abort;
 use std::test::Fail;
 
 // Three frames of S16_LE at 8000 Hz, in a file whose sizes say that there are 500.
-const CUT: &[u8] =
+pub(crate) const CUT: &[u8] =
     b"RIFF\x0c\x04\0\0WAVEfmt \x10\0\0\0\x01\0\x01\0\x40\x1f\0\0\x80\x3e\0\0\x02\0\x10\0data\xe8\x03\0\0\x01\0\x02\0\x03\0";
 
 // The three frames alone.
-const THREE: &[u8] =
+pub(crate) const THREE: &[u8] =
     b"RIFF\x2a\0\0\0WAVEfmt \x10\0\0\0\x01\0\x01\0\x40\x1f\0\0\x80\x3e\0\0\x02\0\x10\0data\x06\0\0\0\x01\0\x02\0\x03\0";
 
 // Three frames of U8, and five.
-const BYTES: &[u8] =
+pub(crate) const BYTES: &[u8] =
     b"RIFF\x28\0\0\0WAVEfmt \x10\0\0\0\x01\0\x01\0\x40\x1f\0\0\x40\x1f\0\0\x01\0\x08\0data\x03\0\0\0\x01\x02\x03\0";
 
-const FIVE_BYTES: &[u8] =
+pub(crate) const FIVE_BYTES: &[u8] =
     b"RIFF\x2a\0\0\0WAVEfmt \x10\0\0\0\x01\0\x01\0\x40\x1f\0\0\x40\x1f\0\0\x01\0\x08\0data\x05\0\0\0\x01\x02\x03\0\0\0";
 
 const FOUR_BYTES: &[u8] =
@@ -32,6 +32,8 @@ const VALID: &[u8] =
 
 const VALID_TWICE: &[u8] =
     b"RIFF\x44\0\0\0WAVEfmt \x28\0\0\0\xfe\xff\x01\0\x40\x1f\0\0\0\x7d\0\0\x04\0\x20\0\x16\0\x18\0\0\0\0\0\x01\0\0\0\0\0\x10\0\x80\0\0\xaa\0\x38\x9b\x71data\x08\0\0\0\0\x01\x02\x03\0\0\0\0";
+
+pub(crate) const NOTHING: &[u8] = b"";
 
 const RIFX: &[u8] =
     b"RIFX\x0c\x04\0\0WAVEfmt \x10\0\0\0\x01\0\x01\0\x40\x1f\0\0\x80\x3e\0\0\x02\0\x10\0data\xe8\x03\0\0\x01\0\x02\0\x03\0";
@@ -48,14 +50,14 @@ struct Outcome {
     why: String,
 }
 
-fn bytes_of(alloc: Global, file: Option<&[u8]>) -> Result<Vec<u8>, AllocError> {
+pub(crate) fn bytes_of(alloc: Global, file: Option<&[u8]>) -> Result<Vec<u8>, AllocError> {
     match file {
         None => Ok(Vec::new(alloc)),
         Some(bytes) => bytes.to_vec(alloc),
     }
 }
 
-fn words_of(alloc: Global, text: &str) -> Result<Vec<String>, AllocError> {
+pub(crate) fn words_of(alloc: Global, text: &str) -> Result<Vec<String>, AllocError> {
     let mut words = Vec::new(alloc);
     for word in text.split(' ') {
         words.push(String::from_str(alloc, word)?)?;
@@ -144,10 +146,8 @@ fn a_file_is_recorded(rt: HostRuntime) -> Result<(), Fail> {
     Ok(())
 }
 
-// 44,100 frames of stereo in periods of 1,024.
-#[test]
-fn a_second_of_stereo_is_played(rt: HostRuntime) -> Result<(), Fail> {
-    let alloc = rt.alloc();
+// A file of 44,100 frames of stereo.
+pub(crate) fn second_of_stereo(alloc: Global) -> Result<Vec<u8>, AllocError> {
     let mut file =
         b"RIFF\x34\xb1\x02\0WAVEfmt \x10\0\0\0\x01\0\x02\0\x44\xac\0\0\x10\xb1\x02\0\x04\0\x10\0data\x10\xb1\x02\0".to_vec(
             alloc,
@@ -155,6 +155,14 @@ fn a_second_of_stereo_is_played(rt: HostRuntime) -> Result<(), Fail> {
     for frame in 0..44_100u32 {
         file.extend_from_slice(&(frame * 40_503).to_le_bytes())?;
     }
+    Ok(file)
+}
+
+// It is played in periods of 1,024.
+#[test]
+fn a_second_of_stereo_is_played(rt: HostRuntime) -> Result<(), Fail> {
+    let alloc = rt.alloc();
+    let file = second_of_stereo(alloc)?;
     let outcome = outcome_of(&rt, alloc, "play in.wav out.wav 1024 4", &file)?;
     assert_eq!(rt;
         outcome.out.as_slice(),
