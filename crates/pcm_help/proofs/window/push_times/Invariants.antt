@@ -1,0 +1,6 @@
+use Rattle.std.proofs.Common.{◌≡◌, ◌++◌}
+use Rattle.std.specs.Prelude.{replicate}
+use Rattle.pcm_help.proofs.window.push_times.Given as goal
+
+abbrev pub invariant-times : goal.invariant-times
+invariant-times l = l.text.items ≡ l.fn.text.items ++ replicate l.counter l.byte

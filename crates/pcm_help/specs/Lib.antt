@@ -1,0 +1,10 @@
+pub mod Lines
+pub mod Recent
+pub mod Answered
+pub mod Remembered
+pub mod Shown
+pub mod Piece
+pub mod Window
+pub mod Commands
+pub mod BadLine
+pub mod FileLine
