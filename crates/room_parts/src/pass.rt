@@ -86,6 +86,13 @@ impl<N: FloorName> Pass<N> {
         self.busy
     }
 
+    /// How many calls it has made.
+    pub fn calls(&self) -> u64
+        ensures { result ≡ length self.now.knows.calls }
+    {
+        self.seat.calls()
+    }
+
     /// The page of a substream. It goes beyond nothing that the pass has seen of that log.
     pub fn page(&mut self, words: &SharedWords, sub: SubId) -> Glance
         requires table { words.now.table ≡ N.table }

@@ -1,0 +1,27 @@
+//! A room: the group that stands in it, with the logs of its members and its book, behind one lock.
+//!
+//! It stands on `pcm_group` for a step of the group, on `floor_rule` and `room_parts` for the logs and the passes, and on
+//! `room_book` for what fits in a room. All of it is this project's own.
+#![tactic(auto)]
+
+mod answer;
+mod contents;
+mod free;
+mod joints;
+pub mod laws;
+mod members;
+mod moved;
+mod new_rooms;
+mod noting;
+mod ready;
+mod recording;
+mod recs;
+mod refusing;
+mod room;
+mod stepping;
+#[cfg(test)]
+mod tests;
+
+pub use answer::Answer;
+pub use recording::Receipt;
+pub use room::Room;
