@@ -21,6 +21,7 @@ pub mod SlotLemmas
 pub mod RefusalLemmas
 pub mod WorldSteps
 pub mod BeginLemmas
+pub mod ShapeLemmas
 pub mod ResultLemmas
 pub mod GoLemmas
 pub mod BeginWorld

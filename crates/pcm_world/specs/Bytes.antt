@@ -21,6 +21,11 @@ length_begun (call.Read w m n) h = if nat_le n 1048576 then n * h.frame_bytes el
 length_begun (call.Load o n) h = if nat_le (o + n) h.buffer then n * h.frame_bytes else 0
 length_begun _ h = 0
 
+-- the sizes by which bytes are read that lie so, none where nothing is read
+abbrev pub shape_for : Option Layout → Option Shape → Option Shape
+shape_for (Some l) shape = shape
+shape_for None shape = None
+
 -- zeros for what a call reads, nothing for a drain, else what was handed in
 abbrev pub lent_bytes : Call → Option Shape → List ℕ → List ℕ
 lent_bytes (call.Read w m n) (Some h) io = replicate (length_begun (call.Read w m n) h) 0

@@ -20,12 +20,13 @@ ghost use Rattle.pcm_group.specs.Lent.{Loads, is_lent_call};
 ghost use Rattle.pcm_group.specs.Stepped.{IsTurn};
 ghost use Rattle.pcm_group.specs.Inside.{members_in};
 ghost use Rattle.pcm_group.specs.Turn.{caller, is_card_event, is_group_call};
+ghost use Rattle.pcm_world.specs.Bytes.{shape_for as shape_for_layout};
 ghost use Rattle.pcm_world.specs.Calls.{stream_at};
 ghost use Rattle.pcm_world.specs.Groups.{all_numbers, place_in, numbers_in, AreFreeFor, AreNumbers, ArePlaces, AreReadyToLink, GroupsStand, IsLinked, linked, linked_woken, numbers_at, taken_of, unlinked, unlinked_woken};
 
 use card_emul::AnyCard;
 use link_group::{join_members, leave_member};
-use pcm_base::{Card, Dir, Event, Model, Shape, State, SubId};
+use pcm_base::{Card, Dir, Event, Layout, Model, Shape, State, SubId};
 use pcm_group::{Group, Turn};
 use pcm_stream::{Member, Members, Substream};
 use sleepers::Sleepers;
@@ -240,6 +241,18 @@ impl Groups {
     {
         match self.substream(sub) {
             Some(stream) => stream.shape().copied(),
+            None => None,
+        }
+    }
+
+    /// The sizes by which bytes of a substream are read that lie so; None where nothing is read.
+    pub(crate) fn shape_for(&self, sub: SubId, layout: Option<Layout>) -> Option<Shape>
+        requires { sub.0 < 16 }
+        ensures model { (xs : List (List ModelMember)) → GroupsStand self.now.items.items xs → result ≡ shape_for_layout layout (option_map (λ c. shape_of c (stream_at sub xs).long_max) (stream_at sub xs).setup.config) }
+        ensures sound { IfSome result IsSoundShape }
+    {
+        match layout {
+            Some(_) => self.shape(sub),
             None => None,
         }
     }

@@ -54,23 +54,23 @@ fn end_call(
     calls: &mut [Option<Kept>; 16],
     results: &mut [Option<Vec<u8>>; 16],
     client: ClientId,
-    reply: Reply,
-    shape: Option<Shape>,
+    reply: &Reply,
+    shape: &Option<Shape>,
     kept: &mut Kept,
 )
     requires client { client.0 ≤ 15 }
-    requires sound { IfSome shape IsSoundShape }
-    requires frames { (h : ShapeOf) (l : LayoutOf) (n : ℕ) → shape ≡ Some h → kept.old.layout ≡ Some l → reply ≡ Frames n → (length kept.old.bytes.items % h.frame_bytes ≡ 0) × (n * h.frame_bytes ≤ length kept.old.bytes.items) }
-    ensures call { slice_get calls.new client.0 ≡ (if is_asleep reply then Some (Some kept.old) else slice_get calls.old client.0) }
+    requires sound { IfSome shape.now IsSoundShape }
+    requires frames { (h : ShapeOf) (l : LayoutOf) (n : ℕ) → shape.now ≡ Some h → kept.old.layout ≡ Some l → reply.now ≡ Frames n → (length kept.old.bytes.items % h.frame_bytes ≡ 0) × (n * h.frame_bytes ≤ length kept.old.bytes.items) }
+    ensures call { slice_get calls.new client.0 ≡ (if is_asleep reply.now then Some (Some kept.old) else slice_get calls.old client.0) }
     ensures calls { (k : ℕ) → k ≢ client.0 → slice_get calls.new k ≡ slice_get calls.old k }
-    ensures result { slot_bytes (slice_get results.new client.0) ≡ bytes_told reply kept.old.layout shape kept.old.bytes.items (slot_bytes (slice_get results.old client.0)) }
+    ensures result { slot_bytes (slice_get results.new client.0) ≡ bytes_told reply.now kept.old.layout shape.now kept.old.bytes.items (slot_bytes (slice_get results.old client.0)) }
     ensures results { (k : ℕ) → k ≢ client.0 → slice_get results.new k ≡ slice_get results.old k }
 {
     let place = client.0 as usize;
     match (reply, kept.layout, shape) {
         (Reply::Asleep, _, _) => calls[place] = Some(kept.take()),
         (Reply::Frames(count), Some(layout), Some(shape)) => {
-            first_frames(&mut kept.bytes, layout, &shape, count);
+            first_frames(&mut kept.bytes, layout, shape, *count);
             put_result(&mut results[place], &mut kept.bytes);
         }
         _ => {}
@@ -83,16 +83,16 @@ pub(crate) fn end(
     calls: &mut [Option<Kept>; 16],
     results: &mut [Option<Vec<u8>>; 16],
     client: Option<ClientId>,
-    reply: Reply,
-    shape: Option<Shape>,
+    reply: &Reply,
+    shape: &Option<Shape>,
     kept: &mut Kept,
 )
     requires client { ForSome client (λ c. c.0 ≤ 15) }
-    requires sound { IfSome shape IsSoundShape }
-    requires frames { (h : ShapeOf) (l : LayoutOf) (n : ℕ) → shape ≡ Some h → kept.old.layout ≡ Some l → reply ≡ Frames n → (length kept.old.bytes.items % h.frame_bytes ≡ 0) × (n * h.frame_bytes ≤ length kept.old.bytes.items) }
-    ensures call { ForSome client (λ c. slice_get calls.new c.0 ≡ (if is_asleep reply then Some (Some kept.old) else slice_get calls.old c.0)) }
+    requires sound { IfSome shape.now IsSoundShape }
+    requires frames { (h : ShapeOf) (l : LayoutOf) (n : ℕ) → shape.now ≡ Some h → kept.old.layout ≡ Some l → reply.now ≡ Frames n → (length kept.old.bytes.items % h.frame_bytes ≡ 0) × (n * h.frame_bytes ≤ length kept.old.bytes.items) }
+    ensures call { ForSome client (λ c. slice_get calls.new c.0 ≡ (if is_asleep reply.now then Some (Some kept.old) else slice_get calls.old c.0)) }
     ensures calls { (k : ℕ) → ForSome client (λ c. k ≢ c.0) → slice_get calls.new k ≡ slice_get calls.old k }
-    ensures result { ForSome client (λ c. slot_bytes (slice_get results.new c.0) ≡ bytes_told reply kept.old.layout shape kept.old.bytes.items (slot_bytes (slice_get results.old c.0))) }
+    ensures result { ForSome client (λ c. slot_bytes (slice_get results.new c.0) ≡ bytes_told reply.now kept.old.layout shape.now kept.old.bytes.items (slot_bytes (slice_get results.old c.0))) }
     ensures results { (k : ℕ) → ForSome client (λ c. k ≢ c.0) → slice_get results.new k ≡ slice_get results.old k }
 {
     if let Some(client) = client {
@@ -105,16 +105,16 @@ pub(crate) fn end_going(
     calls: &mut [Option<Kept>; 16],
     results: &mut [Option<Vec<u8>>; 16],
     client: ClientId,
-    reply: Reply,
-    shape: Option<Shape>,
+    reply: &Reply,
+    shape: &Option<Shape>,
     mut kept: Kept,
 )
     requires client { client.0 ≤ 15 }
-    requires sound { IfSome shape IsSoundShape }
-    requires frames { (h : ShapeOf) (l : LayoutOf) (n : ℕ) → shape ≡ Some h → kept.layout ≡ Some l → reply ≡ Frames n → (length kept.bytes.items % h.frame_bytes ≡ 0) × (n * h.frame_bytes ≤ length kept.bytes.items) }
-    ensures call { slice_get calls.new client.0 ≡ (if is_left reply then Some (Some kept) else slice_get calls.old client.0) }
+    requires sound { IfSome shape.now IsSoundShape }
+    requires frames { (h : ShapeOf) (l : LayoutOf) (n : ℕ) → shape.now ≡ Some h → kept.layout ≡ Some l → reply.now ≡ Frames n → (length kept.bytes.items % h.frame_bytes ≡ 0) × (n * h.frame_bytes ≤ length kept.bytes.items) }
+    ensures call { slice_get calls.new client.0 ≡ (if is_left reply.now then Some (Some kept) else slice_get calls.old client.0) }
     ensures calls { (k : ℕ) → k ≢ client.0 → slice_get calls.new k ≡ slice_get calls.old k }
-    ensures result { slot_bytes (slice_get results.new client.0) ≡ bytes_told reply kept.layout shape kept.bytes.items (slot_bytes (slice_get results.old client.0)) }
+    ensures result { slot_bytes (slice_get results.new client.0) ≡ bytes_told reply.now kept.layout shape.now kept.bytes.items (slot_bytes (slice_get results.old client.0)) }
     ensures results { (k : ℕ) → k ≢ client.0 → slice_get results.new k ≡ slice_get results.old k }
 {
     if let Reply::Memory = reply {

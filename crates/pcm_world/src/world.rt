@@ -215,25 +215,27 @@ impl World {
         ensures unread { (c : ClientIdOf) → result.reply ≡ Memory → result_in self.new c ≡ result_in self.old c }
         ensures taken { self.new.taken ≡ self.old.taken }
     {
-        let shape = self.groups.shape(event.sub);
+        let layout = layout_read(event.call);
+        let shape = self.groups.shape_for(event.sub, layout);
         let Ok(()) = lend(&mut self.current.bytes, event.call, &shape, bytes) else {
             return told(Reply::Memory, None);
         };
         self.current.sub = event.sub;
-        self.current.layout = layout_read(event.call);
+        self.current.layout = layout;
         let told = in_group(&mut self.groups, place, event, &mut self.current.bytes);
         end(
             &mut self.calls,
             &mut self.results,
             event.client,
-            told.reply,
-            shape,
+            &told.reply,
+            &shape,
             &mut self.current,
         );
         told
     }
 
-    // The client's call in progress goes on, with its own bytes.
+    // The client's call in progress goes on, with its own bytes. It stays a call of its own, so that the common way needs no room for it.
+    #[inline(never)]
     fn go_on(&mut self, client: ClientId) -> Told
         requires { client.0 ≤ 15 }
         ensures answered { (w : ModelWorld) (k : SubIdOf) (p : InProgress) → IsWorld self.old w → call_of client w.calls ≡ Some p → result.reply ≢ Memory
@@ -259,8 +261,8 @@ impl World {
             &mut self.calls,
             &mut self.results,
             client,
-            told.reply,
-            shape,
+            &told.reply,
+            &shape,
             kept,
         );
         told

@@ -30,8 +30,8 @@ returns-in-Frames-Some-Some-clause-result c =
     ap slot_bytes (set-here c.args.results.now c.args.client.0 c.put_result.new.slot (omega (arith, c.told-results, c.requires.client)))
     ∙ c.put_result.ensures
     ∙ c.first_frames.ensures
-    ∙ sym (ap (λ (r : Reply). bytes_told r c.args.kept.now.layout c.args.shape c.args.kept.now.bytes.items before) c.in-Frames-Some-Some.is-0
-    ∙ ap (λ (l : Option Layout). bytes_told (reply.Frames c.in-Frames-Some-Some.count) l c.args.shape c.args.kept.now.bytes.items before) c.in-Frames-Some-Some.is-1
+    ∙ sym (ap (λ (r : Reply). bytes_told r c.args.kept.now.layout c.args.shape.now c.args.kept.now.bytes.items before) c.in-Frames-Some-Some.is-0
+    ∙ ap (λ (l : Option Layout). bytes_told (reply.Frames c.in-Frames-Some-Some.count) l c.args.shape.now c.args.kept.now.bytes.items before) c.in-Frames-Some-Some.is-1
     ∙ ap (λ (h : Option Shape). bytes_told (reply.Frames c.in-Frames-Some-Some.count) (Some c.in-Frames-Some-Some.layout) h c.args.kept.now.bytes.items before) c.in-Frames-Some-Some.is-2)
 
 pub returns-in-Frames-Some-Some-clause-results : goal.returns-in-Frames-Some-Some-clause-results
