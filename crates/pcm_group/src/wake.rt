@@ -43,6 +43,9 @@ fn wake_member<C: Card>(member: &mut Member<C>, group_drains: bool) -> u16
     ensures sub { member.new.sub ≡ member.old.sub }
     ensures stream { member.new.stream ≡ member.old.stream }
 {
+    if member.sleepers.is_empty() {
+        return 0;
+    }
     let page = member.stream.page();
     let dir = member.stream.dir();
     member
