@@ -65,7 +65,7 @@ pub lent_within : (o : Option ℕ) (count n : ℕ) → IsLent o count n → n �
 lent_within None count n h = omega (arith, h)
 lent_within (Some k) count n h = let a = h.0 in let b = h.1 in omega (arith, a, b)
 
-both_same : (a b : ℕ) → (nat_eq a a && nat_eq b b) ≡ true
+pub both_same : (a b : ℕ) → (nat_eq a a && nat_eq b b) ≡ true
 both_same a b =
     let f : nat_eq a a ≡ true = grind (arith, nat_tests) in
     let g : nat_eq b b ≡ true = grind (arith, nat_tests) in
@@ -193,6 +193,19 @@ module _ (cs : List (CardModel × Dir)) (long_max : ℕ) (e : Event) (io now : L
           count_is = refl;
         };
       }
+
+  -- the pass's list of the log is that of the member
+  pub told_turned : FitsIn (fresh_streams cs long_max) (length cs) (acts_in w.book) w.number (turn_of e io xs).members w.recs w.book → told_log receipt q.knows ≡ log_in e.sub w.recs
+  told_turned fits =
+      let ms : List Member = (turn_of e io xs).members in
+      let cb = recorded.first.called_by in
+      let r = did.turned.stepped.receipt_is own own_at in
+      let is : sub_of recorded.first.rec ≡ e.sub = ap (λ (n : ℕ). let k : SubId = record { 0 = n } in k) recorded.first.joined.sub ∙ own_is in
+      let number_is : slice_get (subs ms) did.place ≡ Some e.sub = number_at (subs ms) w.recs did.place recorded.first.rec e.sub fits.recs_are new_at is in
+      let new_log : log_of e.sub (subs ms) (logs_of w.recs) ≡ recorded.first.rec.knows.log = log_at_place (subs ms) (logs_of w.recs) did.place e.sub recorded.first.rec.knows.log fits.fits.fits.apart number_is
+      (get_map (λ (x : RecView). x.knows.log) w.recs did.place recorded.first.rec new_at) in
+      let sub_is : receipt.sub.0 ≡ own.knows.sub = ap (λ (k : SubId). k.0) r.0 in
+      ap (λ (n : ℕ). longest n q.knows.held.logs) sub_is ∙ cb.list ∙ sym new_log ∙ ap (λ (ks : List SubId). log_of e.sub ks (logs_of w.recs)) (sym fits.recs_are)
 
   -- ---- bytes
 

@@ -20,3 +20,15 @@ pub mod TurnLemmas
 pub mod DoneLemmas
 pub mod RoomLemmas
 pub mod NewLemmas
+pub mod LinkLemmas
+pub mod MeetLemmas
+pub mod MaskLemmas
+pub mod TellingLemmas
+pub mod KnownLemmas
+pub mod LinkRoomLemmas
+pub mod ToldLemmas
+pub mod JoinLemmas
+pub mod JoinedLemmas
+pub mod SeatLemmas
+pub mod StayLemmas
+pub mod UnlinkLemmas

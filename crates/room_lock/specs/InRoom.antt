@@ -32,6 +32,11 @@ pub record FitsIn (origin : SubId → Stream) (cards serial number : ℕ) (xs : 
   pub placed : AllPlaced number cards recs
   pub acts : serial ≡ acts_in book
 
+-- The members stand for these streams, which fit in the room; serial counts its acts.
+pub record IsIn (origin : SubId → Stream) (cards serial : ℕ) (v : RoomView) (xs : List ModelMember) : Type 0 where
+  pub stand : AllStandFor v.members xs
+  pub fits_in : FitsIn origin cards serial v.number xs v.recs v.book
+
 -- The members stand for streams that fit in the room.
 pub record InRoom (origin : SubId → Stream) (cards serial : ℕ) (v : RoomView) : Type 0 where
   pub streams : List ModelMember

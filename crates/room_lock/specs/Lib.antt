@@ -19,3 +19,7 @@ pub mod Turned
 pub mod GroupStep
 pub mod Known
 pub mod Parts
+pub mod Linked
+pub mod Met
+pub mod Joining
+pub mod Staying

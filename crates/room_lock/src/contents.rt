@@ -68,8 +68,8 @@ pub(crate) struct Plan {
     bytes: Vec<u8>,
 }
 
-// The place of the rec of a substream, which has one.
-fn place_of<N: FloorName>(recs: &Vec<Rec<N>>, sub: SubId) -> usize
+/// The place of the rec of a substream, which has one.
+pub(crate) fn place_of<N: FloorName>(recs: &Vec<Rec<N>>, sub: SubId) -> usize
     requires { is_member sub (subs_of recs.now.items) ≡ true }
     ensures below { result < length recs.now.items }
     ensures number { HoldsAt (λ r. sub_of r ≡ sub) result recs.now.items }

@@ -7,10 +7,15 @@
 mod answer;
 mod contents;
 mod free;
+mod joining;
 mod joints;
 pub mod laws;
+mod linking;
+mod links;
+mod meeting;
 mod members;
 mod moved;
+mod moving;
 mod new_rooms;
 mod noting;
 mod ready;
@@ -18,10 +23,14 @@ mod recording;
 mod recs;
 mod refusing;
 mod room;
+mod room_links;
+mod staying;
 mod stepping;
 #[cfg(test)]
 mod tests;
+mod unlinking;
 
 pub use answer::Answer;
 pub use recording::Receipt;
 pub use room::Room;
+pub use room_links::{link_rooms, link_to_group, link_to_itself, unlink_alone};

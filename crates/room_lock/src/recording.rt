@@ -30,8 +30,8 @@ pub struct Receipt {
     pub index: u32,
 }
 
-// How many entries the log of the rec at a place has.
-fn count_at<N: FloorName>(recs: &Vec<Rec<N>>, own: usize) -> u32
+/// How many entries the log of the rec at a place has.
+pub(crate) fn count_at<N: FloorName>(recs: &Vec<Rec<N>>, own: usize) -> u32
     requires own { own < length recs.now.items }
     requires room { HoldsAt (HasRoom 3) own recs.now.items }
     ensures { HoldsAt (λ r. result ≡ length r.knows.log) own recs.now.items }
@@ -39,8 +39,8 @@ fn count_at<N: FloorName>(recs: &Vec<Rec<N>>, own: usize) -> u32
     recs[own].entries().len() as u32
 }
 
-// The own entry of an event, as the pass's next call, at the end of the log of the rec at a place.
-fn record_own<N: FloorName>(
+/// The own entry of an event, as the pass's next call, at the end of the log of the rec at a place.
+pub(crate) fn record_own<N: FloorName>(
     recs: &mut Vec<Rec<N>>,
     words: &SharedWords,
     pass: &mut Pass<N>,

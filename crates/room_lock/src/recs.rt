@@ -1,5 +1,5 @@
 // The recs of a room, one for each member of its group, in link order.
-ghost use Rattle.std.specs.Prelude.{◌≡◌, ◌≢◌, ◌<◌, ◌≤◌, ◌+◌, ◌^◌, ◌∷◌, [], ℕ, List, length, slice_get, true, Some};
+ghost use Rattle.std.specs.Prelude.{◌≡◌, ◌≢◌, ◌<◌, ◌≤◌, ◌+◌, ◌^◌, ◌∷◌, [], ℕ, List, length, slice_get, vec_len, vec_capacity, true, Some};
 ghost use Rattle.floor_rule.specs.Causes.{Causes};
 ghost use Rattle.floor_rule.specs.Lists.{Stands};
 ghost use Rattle.floor_rule.specs.Steps.{told_by_rec};
@@ -22,11 +22,12 @@ use pcm_base::{Acted, State, SubId};
 use pcm_stream::Members;
 use room_parts::{FloorName, Rec};
 
-// A note of the log of the rec at a place, and of all that it was told.
-fn tell<N: FloorName>(recs: &mut Vec<Rec<N>>, words: &SharedWords, i: usize) -> Note
+/// A note of the log of the rec at a place, and of all that it was told.
+pub(crate) fn tell<N: FloorName>(recs: &mut Vec<Rec<N>>, words: &SharedWords, i: usize) -> Note
     requires table { words.now.table ≡ N.table }
     requires place { i < length recs.old.items }
     ensures same { recs.new.items ≡ recs.old.items }
+    ensures lines { (vec_len recs.new ≡ vec_len recs.old) × (vec_capacity recs.new ≡ vec_capacity recs.old) }
     ensures note { HoldsAt (λ r. result ≡ record { table = N.table; lists = told_by_rec r.knows }) i recs.old.items }
 {
     recs[i].tell(words)

@@ -1,5 +1,5 @@
 // A room.
-ghost use Rattle.std.specs.Prelude.{◌≡◌, ◌≢◌, ◌≤◌, ◌<◌, ◌^◌, ◌∷◌, ◌++◌, [], ℕ, List, true, length, map, slice_get, IfOk, Some};
+ghost use Rattle.std.specs.Prelude.{◌≡◌, ◌≢◌, ◌≤◌, ◌<◌, ◌^◌, ◌∷◌, ◌++◌, [], ℕ, List, true, false, length, map, slice_get, IfOk, Some};
 ghost use Rattle.std.specs.Option.{ForSome, is_none};
 ghost use Rattle.card_emul.specs.Limits.{limits_of};
 ghost use Rattle.pcm_base.specs.declared.reply.Reply.TheVariants.{Memory as MemoryReply};
@@ -14,7 +14,7 @@ ghost use Rattle.room_book.specs.declared.book.BookEntry.TheVariants.{Act, In};
 ghost use Rattle.room_parts.specs.Passes.{IsBy};
 ghost use Rattle.room_lock.specs.Answers.{OnDone, OnFull, OnMemory, log_in, logs_after, turn_of};
 ghost use Rattle.room_lock.specs.InRoom.{IsRoomOf};
-ghost use Rattle.room_lock.specs.Known.{Knows};
+ghost use Rattle.room_lock.specs.Known.{Knows, told_log};
 ghost use Rattle.room_lock.specs.Parts.{AreLeft, EntryHasMoved};
 ghost use Rattle.room_lock.specs.Ready.{IsFull, knows_of};
 ghost use Rattle.room_lock.specs.Refused.{IsRefused};
@@ -24,7 +24,7 @@ use crate::answer::Answer;
 use crate::contents::Contents;
 use crate::new_rooms::{alone, empty};
 use floor_rule::SharedWords;
-use pcm_base::{Dir, Event};
+use pcm_base::{Dir, Event, SubId};
 use room_book::laws::moves;
 use room_parts::{FloorName, Pass, Rec};
 use std::alloc::{AllocError, Global};
@@ -34,7 +34,7 @@ use std::marker::Model;
 /// Contracts see its number, the members, their logs and the book; what fits in a room holds of every room.
 #[derive(Drop)]
 pub struct Room<N: FloorName> {
-    inside: Contents<N>,
+    pub(crate) inside: Contents<N>,
 }
 
 impl<N: FloorName> Model for Room<N> {
@@ -93,6 +93,13 @@ impl<N: FloorName> Room<N> {
         self.inside.number
     }
 
+    /// Whether a substream stands in the room.
+    pub fn holds(&self, sub: SubId) -> bool
+        ensures { result ≡ is_member sub (numbers_of self.now.members) }
+    {
+        self.inside.group.holds(sub)
+    }
+
     /// An event of a member, with the bytes of its call, by a pass of its caller: the step of the group. The member's log
     /// gains its entry, in which the pass has its receipt, each other log the parts of its member in the acts, and the book
     /// the acts. `LogFull` tells the first member in link order whose log has no room for three entries more, with the count
@@ -124,6 +131,7 @@ impl<N: FloorName> Room<N> {
             → OnDone result (λ reply receipt woken. logs_of self.new.recs ≡ logs_after event.now io.old xs self.old.number self.old.book pass.old.knows (logs_of self.old.recs)) }
         ensures receipt { OnDone result (λ reply receipt woken. (receipt.sub ≡ event.now.sub) × (receipt.index ≡ length (log_in event.now.sub self.old.recs))) }
         ensures pass { OnDone result (λ reply receipt woken. Knows N.cards N.long_max event.now (length io.old) reply receipt pass.old pass.new) }
+        ensures told { OnDone result (λ reply receipt woken. told_log receipt pass.new.knows ≡ log_in event.now.sub self.new.recs) }
         ensures bytes { (xs : List ModelMember) → IsRoomOf (fresh_streams N.cards N.long_max) (length N.cards) self.old xs
             → OnDone result (λ reply receipt woken. AreLeft event.now io.old io.new xs) }
         ensures moved { (xs : List ModelMember) → IsRoomOf (fresh_streams N.cards N.long_max) (length N.cards) self.old xs

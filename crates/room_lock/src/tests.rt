@@ -1,17 +1,18 @@
-// A room of one member, on a floor of one card.
-ghost use Rattle.std.specs.Prelude.{◌≡◌, ◌≤◌, ◌∷◌, [], true, Some, length};
+// Rooms of one member, and links of them, on floors of one and three cards.
+ghost use Rattle.std.specs.Prelude.{◌≡◌, ◌≤◌, ◌<◌, ◌∷◌, [], true, Some, length};
 ghost use Rattle.std.specs.Option.{ForSome, is_none};
 ghost use Rattle.card_emul.specs.Limits.{basic};
 ghost use Rattle.pcm_base.specs.declared.state.Dir.TheVariants.{Playback as PlaybackDir};
 ghost use Rattle.pcm_group.specs.Turn.{is_card_event, is_group_call};
 ghost use Rattle.pcm_stream.specs.Members.{numbers_of};
 ghost use Rattle.room_parts.specs.Passes.{IsBy};
+ghost use Rattle.room_parts.specs.declared.pass.Caller.TheVariants.{Client as ClientCaller};
 
 use super::*;
 use floor_rule::{Glance, Maker, SharedWords};
 use pcm_base::{
-    Access, Call, ClientId, Config, Dir, Event, Format, Layout, Mode, Model, Page, Reply, State,
-    SubId,
+    Access, Call, ClientId, Config, Dir, Errno, Event, Format, Layout, Mode, Model, Page, Reply,
+    State, SubId,
 };
 use room_parts::{Caller, FloorName, Pass, Rec};
 use std::alloc::{AllocError, Global};
@@ -21,7 +22,11 @@ use std::test::Fail;
 
 const CLIENT: ClientId = ClientId(0);
 
-const CARD: SubId = SubId(0);
+const FIRST: SubId = SubId(0);
+
+const SECOND: SubId = SubId(1);
+
+const THIRD: SubId = SubId(2);
 
 // Two periods of two one-byte frames.
 const SMALL: Config = Config {
@@ -33,54 +38,56 @@ const SMALL: Config = Config {
     periods: 2,
 };
 
-// What an event was answered, and what the page of its log shows then.
+// What an event of a substream that stands alone was answered, and what the page of its log shows then.
 fn answered<N: FloorName>(
     room: &mut Room<N>,
     words: &SharedWords,
     pass: &mut Pass<N>,
+    sub: SubId,
     event: Event,
     io: &mut [u8],
 ) -> (Answer, Glance)
     requires words { (words.now.table ≡ N.table) × (words.now.cards ≡ length N.cards) }
-    requires card { length N.cards ≡ 1 }
-    requires here { (event.sub.0 ≡ 0) × (numbers_of room.old.members ≡ record { 0 = 0 } ∷ []) }
+    requires card { sub.0 < length N.cards }
+    requires here { (event.sub ≡ sub) × (numbers_of room.old.members ≡ sub ∷ []) }
     requires call { is_group_call event.call ≡ true }
     requires caller { is_card_event event.call ≡ is_none event.client }
     requires client { ForSome event.client (λ c. c.0 ≤ 15) }
     requires by { IsBy pass.old.caller event }
-    ensures here { numbers_of room.new.members ≡ record { 0 = 0 } ∷ [] }
+    ensures here { numbers_of room.new.members ≡ sub ∷ [] }
+    ensures number { room.new.number ≡ room.old.number }
     ensures caller { pass.new.caller ≡ pass.old.caller }
 {
     let answer = room.turn(words, pass, &event, io);
-    let page = pass.page(words, CARD);
+    let page = pass.page(words, sub);
     (answer, page)
 }
 
-fn by_client(call: Call) -> Event
-    ensures { result ≡ record { client = Some CLIENT; sub = CARD; call = call } }
+fn by_client(sub: SubId, call: Call) -> Event
+    ensures { result ≡ record { client = Some CLIENT; sub = sub; call = call } }
 {
     Event {
         client: Some(CLIENT),
-        sub: CARD,
+        sub,
         call,
     }
 }
 
-fn by_card(call: Call) -> Event
-    ensures { result ≡ record { client = None; sub = CARD; call = call } }
+fn by_card(sub: SubId, call: Call) -> Event
+    ensures { result ≡ record { client = None; sub = sub; call = call } }
 {
     Event {
         client: None,
-        sub: CARD,
+        sub,
         call,
     }
 }
 
 // The answer of the call whose entry is the one at this place, and the page after it.
-fn done(reply: Reply, index: u32, state: State, hw: u64) -> (Answer, Glance)
+fn done(sub: SubId, reply: Reply, index: u32, state: State, hw: u64) -> (Answer, Glance)
     requires { index ≤ 100 }
 {
-    let receipt = Receipt { sub: CARD, index };
+    let receipt = Receipt { sub, index };
     let answer = Answer::Done {
         reply,
         receipt,
@@ -92,6 +99,15 @@ fn done(reply: Reply, index: u32, state: State, hw: u64) -> (Answer, Glance)
         hw,
     };
     (answer, page)
+}
+
+// A page that shows so many entries, and the hardware position 0.
+fn page_of(count: u32, state: State) -> Glance {
+    Glance {
+        count,
+        state,
+        hw: 0,
+    }
 }
 
 // Four frames are written, three are taken, and the card interrupts.
@@ -107,42 +123,150 @@ fn playing<N: FloorName, R: Abort>(
 {
     let rec = Rec::<N>::new(alloc, maker.add_rec(&words));
     let mut client = Pass::<N>::new(maker.add_pass(&words), Caller::Client(CLIENT));
-    let mut card = Pass::<N>::new(maker.add_pass(&words), Caller::Card(CARD));
+    let mut card = Pass::<N>::new(maker.add_pass(&words), Caller::Card(FIRST));
     let mut room = Room::alone(alloc, rec, (Model::Basic, Dir::Playback), 2_147_483_647)?;
     let r = &mut room;
-    let open = by_client(Call::OpenSub);
-    let hw = by_client(Call::HwParams(SMALL));
-    let prepare = by_client(Call::Prepare);
-    let write = by_client(Call::Write(Layout::Interleaved, Mode::NonBlock));
-    let movement = by_card(Call::MoveBy(3));
-    let interrupt = by_card(Call::Irq);
-    let status = by_client(Call::Status);
-    let got = answered(r, &words, &mut client, open, &mut []);
-    assert_eq!(rt; got, done(Reply::Ok, 0, State::Opened, 0));
-    let got = answered(r, &words, &mut client, hw, &mut []);
-    assert_eq!(rt; got, done(Reply::Ok, 1, State::Setup, 0));
-    let got = answered(r, &words, &mut client, prepare, &mut []);
-    assert_eq!(rt; got, done(Reply::Ok, 2, State::Prepared, 0));
-    let got = answered(r, &words, &mut client, write, &mut [1, 2, 3, 4]);
-    assert_eq!(rt; got, done(Reply::Frames(4), 3, State::Running, 0));
-    let got = answered(r, &words, &mut card, movement, &mut []);
-    assert_eq!(rt; got, done(Reply::Moved(3), 4, State::Running, 0));
-    let got = answered(r, &words, &mut card, interrupt, &mut []);
-    assert_eq!(rt; got, done(Reply::Ok, 5, State::Running, 3));
-    let got = answered(r, &words, &mut client, status, &mut []);
+    let open = by_client(FIRST, Call::OpenSub);
+    let hw = by_client(FIRST, Call::HwParams(SMALL));
+    let prepare = by_client(FIRST, Call::Prepare);
+    let write = by_client(FIRST, Call::Write(Layout::Interleaved, Mode::NonBlock));
+    let movement = by_card(FIRST, Call::MoveBy(3));
+    let interrupt = by_card(FIRST, Call::Irq);
+    let status = by_client(FIRST, Call::Status);
+    let got = answered(r, &words, &mut client, FIRST, open, &mut []);
+    assert_eq!(rt; got, done(FIRST, Reply::Ok, 0, State::Opened, 0));
+    let got = answered(r, &words, &mut client, FIRST, hw, &mut []);
+    assert_eq!(rt; got, done(FIRST, Reply::Ok, 1, State::Setup, 0));
+    let got = answered(r, &words, &mut client, FIRST, prepare, &mut []);
+    assert_eq!(rt; got, done(FIRST, Reply::Ok, 2, State::Prepared, 0));
+    let got = answered(r, &words, &mut client, FIRST, write, &mut [1, 2, 3, 4]);
+    assert_eq!(rt; got, done(FIRST, Reply::Frames(4), 3, State::Running, 0));
+    let got = answered(r, &words, &mut card, FIRST, movement, &mut []);
+    assert_eq!(rt; got, done(FIRST, Reply::Moved(3), 4, State::Running, 0));
+    let got = answered(r, &words, &mut card, FIRST, interrupt, &mut []);
+    assert_eq!(rt; got, done(FIRST, Reply::Ok, 5, State::Running, 3));
+    let got = answered(r, &words, &mut client, FIRST, status, &mut []);
     let page = Page {
         state: State::Running,
         hw: 3,
         appl: 4,
         avail: 3,
     };
-    assert_eq!(rt; got, done(Reply::Ptrs(page), 6, State::Running, 3));
+    assert_eq!(rt; got, done(FIRST, Reply::Ptrs(page), 6, State::Running, 3));
     Ok(())
+}
+
+// A card is opened and set up.
+fn set_up<N: FloorName>(
+    room: &mut Room<N>,
+    words: &SharedWords,
+    pass: &mut Pass<N>,
+    sub: SubId,
+) -> (Answer, Glance)
+    requires words { (words.now.table ≡ N.table) × (words.now.cards ≡ length N.cards) }
+    requires card { sub.0 < length N.cards }
+    requires here { numbers_of room.old.members ≡ sub ∷ [] }
+    requires caller { pass.old.caller ≡ ClientCaller CLIENT }
+    ensures here { numbers_of room.new.members ≡ sub ∷ [] }
+    ensures number { room.new.number ≡ room.old.number }
+    ensures caller { pass.new.caller ≡ pass.old.caller }
+{
+    let open = by_client(sub, Call::OpenSub);
+    let _ = answered(room, words, pass, sub, open, &mut []);
+    let hw = by_client(sub, Call::HwParams(SMALL));
+    answered(room, words, pass, sub, hw, &mut [])
+}
+
+// Three cards are set up alike. A link to itself is refused, two are linked, a link of the second to the third is refused, and
+// so is an unlink of the third, which stands alone.
+fn linking<N: FloorName, R: Abort>(
+    rt: &R,
+    alloc: Global,
+    words: SharedWords,
+    mut maker: Maker,
+) -> Result<(), AllocError>
+    requires table { words.table ≡ N.table }
+    requires cards { (words.cards ≡ 3) × (N.cards ≡ (basic, PlaybackDir) ∷ (basic, PlaybackDir) ∷ (basic, PlaybackDir) ∷ []) × (N.long_max ≡ 2147483647) }
+    requires maker { maker ≡ record { table = N.table; knows = record { recs = 0; passes = 0; roll = [] } } }
+{
+    let card = (Model::Basic, Dir::Playback);
+    let rec = Rec::<N>::new(alloc, maker.add_rec(&words));
+    let second_rec = Rec::<N>::new(alloc, maker.add_rec(&words));
+    let third_rec = Rec::<N>::new(alloc, maker.add_rec(&words));
+    let mut pass = Pass::<N>::new(maker.add_pass(&words), Caller::Client(CLIENT));
+    let mut first = Room::alone(alloc, rec, card, 2_147_483_647)?;
+    let mut second = Room::alone(alloc, second_rec, card, 2_147_483_647)?;
+    let mut third = Room::alone(alloc, third_rec, card, 2_147_483_647)?;
+    let mut group = Room::<N>::new(alloc, 16)?;
+    let p = &mut pass;
+    let got = set_up(&mut first, &words, p, FIRST);
+    assert_eq!(rt; got, done(FIRST, Reply::Ok, 1, State::Setup, 0));
+    let got = set_up(&mut second, &words, p, SECOND);
+    assert_eq!(rt; got, done(SECOND, Reply::Ok, 1, State::Setup, 0));
+    let got = set_up(&mut third, &words, p, THIRD);
+    assert_eq!(rt; got, done(THIRD, Reply::Ok, 1, State::Setup, 0));
+    let link = by_client(FIRST, Call::Link(FIRST));
+    let answer = link_to_itself(&words, p, &mut first, &link);
+    let got = (answer, p.page(&words, FIRST));
+    let refused = Reply::Err(Errno::Einval);
+    assert_eq!(rt; got, done(FIRST, refused, 2, State::Setup, 0));
+    let link = by_client(FIRST, Call::Link(SECOND));
+    let answer = link_rooms(&words, p, &mut first, &mut second, &mut group, &link);
+    assert_eq!(rt; answer, done(FIRST, Reply::Ok, 3, State::Setup, 0).0);
+    assert_eq!(rt; p.page(&words, FIRST), page_of(5, State::Setup));
+    assert_eq!(rt; p.page(&words, SECOND), page_of(4, State::Setup));
+    let is_here = group.holds(SECOND) && !third.holds(SECOND);
+    assert!(rt; is_here);
+    let link = by_client(THIRD, Call::Link(SECOND));
+    let answer = link_to_group(&words, p, &mut third, &mut group, &link);
+    let got = (answer, p.page(&words, THIRD));
+    let refused = Reply::Err(Errno::Ealready);
+    assert_eq!(rt; got, done(THIRD, refused, 2, State::Setup, 0));
+    let number = third.number();
+    assert!(rt; number < 16);
+    let is_here = third.holds(THIRD);
+    assert!(rt; is_here);
+    let unlink = by_client(THIRD, Call::Unlink);
+    let answer = unlink_alone(&words, p, &mut third, &unlink);
+    let got = (answer, p.page(&words, THIRD));
+    assert_eq!(rt; got, done(THIRD, refused, 3, State::Setup, 0));
+    joining(rt, &words, p, &mut group, &mut third);
+    Ok(())
+}
+
+// The third joins the two that are linked.
+fn joining<N: FloorName, R: Abort>(
+    rt: &R,
+    words: &SharedWords,
+    pass: &mut Pass<N>,
+    group: &mut Room<N>,
+    third: &mut Room<N>,
+)
+    requires words { (words.now.table ≡ N.table) × (words.now.cards ≡ length N.cards) × (length N.cards ≡ 3) }
+    requires group { group.old.number ≡ 16 }
+    requires caller { pass.old.caller ≡ ClientCaller CLIENT }
+{
+    let is_here = group.holds(FIRST) && third.holds(THIRD) && !group.holds(THIRD);
+    assert!(rt; is_here);
+    let link = by_client(FIRST, Call::Link(THIRD));
+    let answer = link_to_group(words, pass, group, third, &link);
+    assert_eq!(rt; answer, done(FIRST, Reply::Ok, 5, State::Setup, 0).0);
+    assert_eq!(rt; pass.page(words, FIRST), page_of(6, State::Setup));
+    assert_eq!(rt; pass.page(words, THIRD), page_of(6, State::Setup));
+    let is_gone = group.holds(THIRD) && !third.holds(THIRD);
+    assert!(rt; is_gone);
 }
 
 #[test]
 fn one_member_plays(rt: HostRuntime) -> Result<(), Fail> {
     let (words, maker) = SharedWords::new(rt.alloc(), 1)?;
     playing::<Brand, HostRuntime>(&rt, rt.alloc(), words, maker)?;
+    Ok(())
+}
+
+#[test]
+fn substreams_are_linked(rt: HostRuntime) -> Result<(), Fail> {
+    let (words, maker) = SharedWords::new(rt.alloc(), 3)?;
+    linking::<Brand, HostRuntime>(&rt, rt.alloc(), words, maker)?;
     Ok(())
 }
