@@ -1,0 +1,8 @@
+use Rattle.std.specs.Prelude.{[], ◌∷◌}
+use Rattle.card_emul.specs.Limits.{basic}
+use Rattle.pcm_base.specs.declared.state.Dir.TheVariants.{Playback}
+use Rattle.live_floor.proofs.tests.a_client_plays_on_a_floor.Given as goal
+
+-- the words that were just made, over one playback card
+abbrev pub ghosts-playing : goal.ghosts-playing
+ghosts-playing g a = record { table = a.words.table; cards = (basic, Playback) ∷ []; long_max = 2147483647 }
