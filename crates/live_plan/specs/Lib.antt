@@ -1,0 +1,6 @@
+pub mod Lines
+pub mod Said
+pub mod Rules
+pub mod Plan
+pub mod Sound
+pub mod Draft
