@@ -1,0 +1,2 @@
+mod ScriptLine
+mod LogLemmas

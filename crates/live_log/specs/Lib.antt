@@ -1,0 +1,5 @@
+pub mod Joint
+pub mod Event
+pub mod Entry
+pub mod Log
+pub mod Written
