@@ -107,7 +107,7 @@ none_known (r ∷ rs) (t ∷ ts) h e = absurd (let no : ⊥ = cc in no)
 
 -- the same of a link of members of two rooms
 
-logs_linked_known : (k : SubId) (l : Linked) (xs : List ModelMember) (p : PassKnows) (rs ts : List RecView) → knows_of ts ≡ knows_of rs → logs_linked k l xs p ts ≡ logs_linked k l xs p rs
+pub logs_linked_known : (k : SubId) (l : Linked) (xs : List ModelMember) (p : PassKnows) (rs ts : List RecView) → knows_of ts ≡ knows_of rs → logs_linked k l xs p ts ≡ logs_linked k l xs p rs
 logs_linked_known k l xs p rs ts h =
     ap (λ (z : List Marked × List SubId × List (List Marked)). with_log k (with_link z.0 l (stream_of k xs) p) z.1 z.2) (λ i. (log_in_known k rs ts h i, subs_known rs ts h i, logs_known rs ts h i))
 

@@ -32,3 +32,7 @@ pub mod JoinedLemmas
 pub mod SeatLemmas
 pub mod StayLemmas
 pub mod UnlinkLemmas
+pub mod LeavingLemmas
+pub mod PartingLemmas
+pub mod PairLemmas
+pub mod WithinLemmas

@@ -61,7 +61,7 @@ no_joints k number = by (nat_eq k.0 k.0)
     by true = refl
     by false = refl
 
-alone_right : (k : SubId) → k.0 < 16 → RightSize k.0 (k ∷ [])
+pub alone_right : (k : SubId) → k.0 < 16 → RightSize k.0 (k ∷ [])
 alone_right k low = by (nat_lt k.0 16) (let is : nat_lt k.0 16 ≡ true = grind (arith, nat_tests, low) in is)
   where
     by : (b : Bool) → b ≡ true → MatchBool b (IsOwnOrNone k.0 (k ∷ [])) ((length (k ∷ []) ≡ 0) ⊎ (2 ≤ length (k ∷ [])))

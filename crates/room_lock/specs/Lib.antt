@@ -23,3 +23,6 @@ pub mod Linked
 pub mod Met
 pub mod Joining
 pub mod Staying
+pub mod Leaving
+pub mod Parting
+pub mod Within

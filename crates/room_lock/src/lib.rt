@@ -10,6 +10,7 @@ mod free;
 mod joining;
 mod joints;
 pub mod laws;
+mod leaving;
 mod linking;
 mod links;
 mod meeting;
@@ -18,6 +19,7 @@ mod moved;
 mod moving;
 mod new_rooms;
 mod noting;
+mod parting;
 mod ready;
 mod recording;
 mod recs;
@@ -29,8 +31,12 @@ mod stepping;
 #[cfg(test)]
 mod tests;
 mod unlinking;
+mod within;
 
 pub use answer::Answer;
 pub use recording::Receipt;
 pub use room::Room;
-pub use room_links::{link_rooms, link_to_group, link_to_itself, unlink_alone};
+pub use room_links::{
+    link_rooms, link_to_group, link_to_itself, link_within, unlink_alone, unlink_from_group,
+    unlink_rooms,
+};

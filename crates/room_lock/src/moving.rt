@@ -1,5 +1,6 @@
 // Members that go out of a room and come into another, with their recs.
-ghost use Rattle.std.specs.Prelude.{◌≡◌, ◌≤◌, ◌<◌, ◌^◌, ◌∷◌, ◌++◌, ◌+◌, [], List, true, false, length, vec_len, vec_capacity, IfOk};
+ghost use Rattle.std.specs.Prelude.{◌≡◌, ◌≤◌, ◌<◌, ◌^◌, ◌∷◌, ◌++◌, ◌+◌, [], List, Some, true, false, length, remove, slice_get, vec_len, vec_capacity, IfOk};
+ghost use Rattle.std.specs.Option.{option_to_list, OnSome};
 ghost use Rattle.floor_rule.specs.Causes.{Causes};
 ghost use Rattle.floor_rule.specs.Lists.{Stands};
 ghost use Rattle.floor_rule.specs.declared.entry.Entry.TheVariants.{Moved as MovedEntry};
@@ -7,25 +8,26 @@ ghost use Rattle.floor_rule.specs.declared.rule.Marked.{Marked};
 ghost use Rattle.pcm_base.specs.model.Replay.{is_member};
 ghost use Rattle.pcm_base.specs.model.Sleep.{mask_of, wake, woken};
 ghost use Rattle.pcm_base.specs.model.Stream.{Member as ModelMember};
+ghost use Rattle.pcm_base.specs.model.World.{only_member, without_member};
 ghost use Rattle.pcm_group.specs.Inside.{members_in};
 ghost use Rattle.pcm_stream.specs.Members.{all_differ, members_of, numbers_of};
 ghost use Rattle.pcm_stream.specs.MembersStand.{AllStandFor};
 ghost use Rattle.room_book.specs.declared.book.BookEntry.TheVariants.{In, Out};
 ghost use Rattle.room_parts.specs.Recs.{RecView};
-ghost use Rattle.room_lock.specs.Joined.{HasRoom};
+ghost use Rattle.room_lock.specs.Joined.{HasRoom, HoldsAt};
 ghost use Rattle.room_lock.specs.Linked.{HasMoved};
 ghost use Rattle.room_lock.specs.Ready.{SpareTo, knows_of};
-ghost use Rattle.room_lock.specs.Shared.{sub_of};
+ghost use Rattle.room_lock.specs.Shared.{sub_of, subs_of};
 
 use crate::contents::Contents;
 use crate::ready::reserve_all;
 use crate::recording::Receipt;
 use card_emul::AnyCard;
 use floor_rule::{Note, SharedWords};
-use link_group::join_members;
-use pcm_base::Page;
+use link_group::{Left, join_members, leave_member};
+use pcm_base::{Page, SubId};
 use pcm_group::Group;
-use pcm_stream::Members;
+use pcm_stream::{Member, Members};
 use room_book::BookEntry;
 use room_parts::{FloorName, Rec};
 use std::alloc::AllocError;
@@ -36,6 +38,29 @@ use std::mem;
 pub(crate) struct Mover<N: FloorName> {
     pub(crate) members: Members<AnyCard>,
     pub(crate) rec: Rec<N>,
+}
+
+/// One of a group on its way, with its rec, and the others, whose recs stay.
+#[derive(Drop)]
+pub(crate) struct Apart<N: FloorName> {
+    pub(crate) one: Mover<N>,
+    pub(crate) rest: Members<AnyCard>,
+}
+
+// The others of a group that one has left, and with whom one that was left alone was taken out too.
+fn back(mut members: Members<AnyCard>, alone: Option<Member<AnyCard>>) -> Members<AnyCard>
+    requires none { OnSome alone (members_of members ≡ []) }
+    requires distinct { all_differ (numbers_of (members_of members)) ≡ true }
+    ensures members { members_of result ≡ option_to_list alone ++ members_of members }
+    ensures distinct { all_differ (numbers_of (members_of result)) ≡ true }
+{
+    match alone {
+        Some(member) => {
+            members.add(member);
+            members
+        }
+        None => members,
+    }
 }
 
 /// The wake check of a member on its way, and the clients that it marks awake, client i as bit i.
@@ -99,6 +124,78 @@ impl<N: FloorName> Contents<N> {
         self.book.push_reserved(BookEntry::Out(rec.sub()));
         let members = mem::replace(&mut self.group, spare).into_members();
         Mover { members, rec }
+    }
+
+    /// The member of the rec at a place goes out of a group of two or more, with its rec. The others are handed out too: they
+    /// come back by `settle`.
+    pub(crate) fn take_out(
+        &mut self,
+        place: usize,
+        sub: SubId,
+        spare: Group<AnyCard>,
+        way: Group<AnyCard>,
+    ) -> Apart<N>
+        requires two { 2 ≤ length (members_in self.old.group) }
+        requires place { place < length self.old.recs.items }
+        requires sub { HoldsAt (λ r. sub_of r ≡ sub) place self.old.recs.items }
+        requires members { numbers_of (members_in self.old.group) ≡ subs_of self.old.recs.items }
+        requires line { vec_len self.old.book < vec_capacity self.old.book }
+        requires way { members_in way ≡ [] }
+        ensures rec { slice_get self.old.recs.items place ≡ Some result.one.rec }
+        ensures recs { self.new.recs.items ≡ remove self.old.recs.items place }
+        ensures one { (xs : List ModelMember) → AllStandFor (members_in self.old.group) xs → AllStandFor (members_of result.one.members) (only_member sub xs) }
+        ensures rest { (xs : List ModelMember) → AllStandFor (members_in self.old.group) xs → AllStandFor (members_of result.rest) (without_member sub xs) }
+        ensures single { length (members_of result.one.members) ≡ 1 }
+        ensures number { numbers_of (members_of result.one.members) ≡ sub ∷ [] }
+        ensures others { numbers_of (members_of result.rest) ≡ subs_of self.new.recs.items }
+        ensures distinct { all_differ (numbers_of (members_of result.rest)) ≡ true }
+        ensures group { self.new.group ≡ spare }
+        ensures book { self.new.book.items ≡ self.old.book.items ++ Out sub ∷ [] }
+        ensures lines { (vec_len self.new.book ≡ vec_len self.old.book + 1) × (vec_capacity self.new.book ≡ vec_capacity self.old.book) }
+        ensures same { (self.new.number ≡ self.old.number) × (self.new.serial ≡ self.old.serial) }
+    {
+        let rec = self.recs.remove(place);
+        self.book.push_reserved(BookEntry::Out(sub));
+        let mut members = mem::replace(&mut self.group, spare).into_members();
+        let Left { gone, alone } = leave_member(&mut members, sub);
+        let mut single = way.into_members();
+        single.add(gone);
+        Apart {
+            one: Mover {
+                members: single,
+                rec,
+            },
+            rest: back(members, alone),
+        }
+    }
+
+    /// The only one that is left goes out too, with its rec.
+    pub(crate) fn last_out(&mut self, rest: Members<AnyCard>) -> Mover<N>
+        requires one { length self.old.recs.items ≡ 1 }
+        requires line { vec_len self.old.book < vec_capacity self.old.book }
+        ensures rec { self.old.recs.items ≡ result.rec ∷ [] }
+        ensures members { result.members ≡ rest }
+        ensures none { self.new.recs.items ≡ [] }
+        ensures book { self.new.book.items ≡ self.old.book.items ++ Out (sub_of result.rec) ∷ [] }
+        ensures same { (self.new.group ≡ self.old.group) × (self.new.number ≡ self.old.number) × (self.new.serial ≡ self.old.serial) }
+    {
+        let rec = self.recs.remove(0);
+        let sub = rec.sub();
+        self.book.push_reserved(BookEntry::Out(sub));
+        Mover { members: rest, rec }
+    }
+
+    /// The others come back where one has gone out, and the wake check is made: the clients that it marks awake, client i as
+    /// bit i.
+    pub(crate) fn settle(&mut self, rest: Members<AnyCard>) -> u16
+        requires distinct { all_differ (numbers_of (members_of rest)) ≡ true }
+        ensures stands { (xs : List ModelMember) → AllStandFor (members_of rest) xs → AllStandFor (members_in self.new.group) (wake xs) }
+        ensures woken { (xs : List ModelMember) → AllStandFor (members_of rest) xs → result ≡ mask_of (woken xs) }
+        ensures same { (self.new.recs ≡ self.old.recs) × (self.new.book ≡ self.old.book) × (self.new.number ≡ self.old.number) × (self.new.serial ≡ self.old.serial) }
+    {
+        let (group, woken) = Group::of(rest);
+        self.group = group;
+        woken
     }
 
     /// A member comes in behind the others, with its rec, and the wake check is made: the clients that it marks awake, client

@@ -57,6 +57,7 @@ pub(crate) fn record_own<N: FloorName>(
     requires room { HoldsAt (HasRoom 3) own recs.old.items }
     requires low { hw < 2 ^ 36 }
     requires tells { HoldsAt (λ r. (r.knows.sub < words.now.cards) × Tells r.knows.sub entry event.now) own recs.old.items }
+    requires sub { HoldsAt (λ r. event.now.sub.0 ≡ r.knows.sub) own recs.old.items }
     requires by { IsBy pass.old.caller event.now }
     requires alone { HoldsAt (λ r. IsAlone (length N.cards) r.knows.sub event.now.call) own recs.old.items }
     ensures recorded { (r : RecView) → slice_get recs.old.items own ≡ Some r → IsOwnRecorded own event.now count entry state hw r recs.old.items recs.new.items pass.old pass.new }

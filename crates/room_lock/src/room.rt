@@ -7,7 +7,7 @@ ghost use Rattle.pcm_base.specs.model.Replay.{is_member};
 ghost use Rattle.pcm_base.specs.model.Sleep.{mask_of};
 ghost use Rattle.pcm_base.specs.model.Stream.{Member as ModelMember, fresh};
 ghost use Rattle.pcm_group.specs.Turn.{is_card_event, is_group_call};
-ghost use Rattle.pcm_stream.specs.Members.{numbers_of};
+ghost use Rattle.pcm_stream.specs.Members.{members_of, numbers_of};
 ghost use Rattle.pcm_stream.specs.MembersStand.{AllStandFor};
 ghost use Rattle.room_book.specs.Rooms.{fresh_streams};
 ghost use Rattle.room_book.specs.declared.book.BookEntry.TheVariants.{Act, In};
@@ -23,8 +23,10 @@ ghost use Rattle.room_lock.specs.Turning.{logs_of};
 use crate::answer::Answer;
 use crate::contents::Contents;
 use crate::new_rooms::{alone, empty};
+use card_emul::AnyCard;
 use floor_rule::SharedWords;
 use pcm_base::{Dir, Event, SubId};
+use pcm_stream::Members;
 use room_book::laws::moves;
 use room_parts::{FloorName, Pass, Rec};
 use std::alloc::{AllocError, Global};
@@ -100,6 +102,21 @@ impl<N: FloorName> Room<N> {
         self.inside.group.holds(sub)
     }
 
+    /// How many substreams stand in the room.
+    pub fn len(&self) -> usize
+        ensures { result ≡ length self.now.members }
+    {
+        self.inside.group.members().len()
+    }
+
+    /// Whether nobody stands in the room.
+    pub fn is_empty(&self) -> bool
+        ensures none { result ≡ true → self.now.members ≡ [] }
+        ensures some { result ≡ false → 0 < length self.now.members }
+    {
+        self.len() == 0
+    }
+
     /// An event of a member, with the bytes of its call, by a pass of its caller: the step of the group. The member's log
     /// gains its entry, in which the pass has its receipt, each other log the parts of its member in the acts, and the book
     /// the acts. `LogFull` tells the first member in link order whose log has no room for three entries more, with the count
@@ -148,5 +165,15 @@ impl<N: FloorName> Room<N> {
     {
         moves();
         self.inside.turn(words, pass, event, io)
+    }
+
+    /// The room is taken apart: the logs of its members, and the members, both in link order.
+    pub fn into_parts(self) -> (Vec<Rec<N>>, Members<AnyCard>)
+        ensures recs { result.0.items ≡ self.recs }
+        ensures members { members_of result.1 ≡ self.members }
+        ensures fits { (xs : List ModelMember) × IsRoomOf (fresh_streams N.cards N.long_max) (length N.cards) self xs }
+    {
+        let Contents { group, recs, .. } = self.inside;
+        (recs, group.into_members())
     }
 }

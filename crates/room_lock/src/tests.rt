@@ -3,6 +3,7 @@ ghost use Rattle.std.specs.Prelude.{◌≡◌, ◌≤◌, ◌<◌, ◌∷◌, []
 ghost use Rattle.std.specs.Option.{ForSome, is_none};
 ghost use Rattle.card_emul.specs.Limits.{basic};
 ghost use Rattle.pcm_base.specs.declared.state.Dir.TheVariants.{Playback as PlaybackDir};
+ghost use Rattle.pcm_base.specs.model.Replay.{is_member};
 ghost use Rattle.pcm_group.specs.Turn.{is_card_event, is_group_call};
 ghost use Rattle.pcm_stream.specs.Members.{numbers_of};
 ghost use Rattle.room_parts.specs.Passes.{IsBy};
@@ -21,6 +22,8 @@ use std::process::Abort;
 use std::test::Fail;
 
 const CLIENT: ClientId = ClientId(0);
+
+const OTHER: ClientId = ClientId(1);
 
 const FIRST: SubId = SubId(0);
 
@@ -56,6 +59,30 @@ fn answered<N: FloorName>(
     requires by { IsBy pass.old.caller event }
     ensures here { numbers_of room.new.members ≡ sub ∷ [] }
     ensures number { room.new.number ≡ room.old.number }
+    ensures caller { pass.new.caller ≡ pass.old.caller }
+{
+    let answer = room.turn(words, pass, &event, io);
+    let page = pass.page(words, sub);
+    (answer, page)
+}
+
+// The same of a member of a group.
+fn answered_in_group<N: FloorName>(
+    room: &mut Room<N>,
+    words: &SharedWords,
+    pass: &mut Pass<N>,
+    sub: SubId,
+    event: Event,
+    io: &mut [u8],
+) -> (Answer, Glance)
+    requires words { (words.now.table ≡ N.table) × (words.now.cards ≡ length N.cards) }
+    requires card { sub.0 < length N.cards }
+    requires here { (event.sub ≡ sub) × (is_member sub (numbers_of room.old.members) ≡ true) }
+    requires call { is_group_call event.call ≡ true }
+    requires caller { is_card_event event.call ≡ is_none event.client }
+    requires client { ForSome event.client (λ c. c.0 ≤ 15) }
+    requires by { IsBy pass.old.caller event }
+    ensures here { numbers_of room.new.members ≡ numbers_of room.old.members }
     ensures caller { pass.new.caller ≡ pass.old.caller }
 {
     let answer = room.turn(words, pass, &event, io);
@@ -231,10 +258,13 @@ fn linking<N: FloorName, R: Abort>(
     let got = (answer, p.page(&words, THIRD));
     assert_eq!(rt; got, done(THIRD, refused, 3, State::Setup, 0));
     joining(rt, &words, p, &mut group, &mut third);
+    draining(rt, &words, p, &mut group);
+    let mut other = Pass::<N>::new(maker.add_pass(&words), Caller::Client(OTHER));
+    parting(rt, &words, &mut other, &mut group, &mut first, &mut second);
     Ok(())
 }
 
-// The third joins the two that are linked.
+// The third joins the two that are linked, and leaves them again.
 fn joining<N: FloorName, R: Abort>(
     rt: &R,
     words: &SharedWords,
@@ -244,7 +274,9 @@ fn joining<N: FloorName, R: Abort>(
 )
     requires words { (words.now.table ≡ N.table) × (words.now.cards ≡ length N.cards) × (length N.cards ≡ 3) }
     requires group { group.old.number ≡ 16 }
+    requires third { third.old.number ≡ 2 }
     requires caller { pass.old.caller ≡ ClientCaller CLIENT }
+    ensures caller { pass.new.caller ≡ pass.old.caller }
 {
     let is_here = group.holds(FIRST) && third.holds(THIRD) && !group.holds(THIRD);
     assert!(rt; is_here);
@@ -255,6 +287,96 @@ fn joining<N: FloorName, R: Abort>(
     assert_eq!(rt; pass.page(words, THIRD), page_of(6, State::Setup));
     let is_gone = group.holds(THIRD) && !third.holds(THIRD);
     assert!(rt; is_gone);
+    leaving(rt, words, pass, group, third);
+}
+
+// The third leaves the two, and stands alone.
+fn leaving<N: FloorName, R: Abort>(
+    rt: &R,
+    words: &SharedWords,
+    pass: &mut Pass<N>,
+    group: &mut Room<N>,
+    third: &mut Room<N>,
+)
+    requires words { (words.now.table ≡ N.table) × (words.now.cards ≡ length N.cards) × (length N.cards ≡ 3) }
+    requires third { third.old.number ≡ 2 }
+    requires caller { pass.old.caller ≡ ClientCaller CLIENT }
+    ensures caller { pass.new.caller ≡ pass.old.caller }
+{
+    let is_ready = group.len() >= 3 && group.holds(THIRD) && third.is_empty();
+    assert!(rt; is_ready);
+    let unlink = by_client(THIRD, Call::Unlink);
+    let answer = unlink_from_group(words, pass, group, third, &unlink);
+    assert_eq!(rt; answer, done(THIRD, Reply::Ok, 6, State::Setup, 0).0);
+    assert_eq!(rt; pass.page(words, THIRD), page_of(8, State::Setup));
+    let is_home = group.len() == 2 && third.holds(THIRD);
+    assert!(rt; is_home);
+}
+
+// The second of two plays out what it was given, and the client waits on the first for that.
+fn draining<N: FloorName, R: Abort>(
+    rt: &R,
+    words: &SharedWords,
+    pass: &mut Pass<N>,
+    group: &mut Room<N>,
+)
+    requires words { (words.now.table ≡ N.table) × (words.now.cards ≡ length N.cards) × (length N.cards ≡ 3) }
+    requires caller { pass.old.caller ≡ ClientCaller CLIENT }
+{
+    let is_ready = group.holds(FIRST) && group.holds(SECOND);
+    assert!(rt; is_ready);
+    let prepare = by_client(FIRST, Call::Prepare);
+    let write = by_client(SECOND, Call::Write(Layout::Interleaved, Mode::NonBlock));
+    let drain = by_client(SECOND, Call::Drain(Mode::NonBlock));
+    let wait = by_client(FIRST, Call::Drain(Mode::Block));
+    let got = answered_in_group(group, words, pass, FIRST, prepare, &mut []);
+    assert_eq!(rt; got, done(FIRST, Reply::Ok, 6, State::Prepared, 0));
+    let got = answered_in_group(group, words, pass, SECOND, write, &mut [1, 2]);
+    assert_eq!(rt; got, done(SECOND, Reply::Frames(2), 6, State::Prepared, 0));
+    let got = answered_in_group(group, words, pass, SECOND, drain, &mut []);
+    let again = Reply::Err(Errno::Eagain);
+    assert_eq!(rt; got, done(SECOND, again, 7, State::Draining, 0));
+    let got = answered_in_group(group, words, pass, FIRST, wait, &mut []);
+    assert_eq!(rt; got, done(FIRST, Reply::Asleep, 9, State::Setup, 0));
+}
+
+// The two part by a call of another client. The one that waited on the first is woken, since nothing drains there any more.
+fn parting<N: FloorName, R: Abort>(
+    rt: &R,
+    words: &SharedWords,
+    pass: &mut Pass<N>,
+    group: &mut Room<N>,
+    first: &mut Room<N>,
+    second: &mut Room<N>,
+)
+    requires words { (words.now.table ≡ N.table) × (words.now.cards ≡ length N.cards) × (length N.cards ≡ 3) }
+    requires homes { (first.old.number ≡ 0) × (second.old.number ≡ 1) }
+    requires caller { pass.old.caller ≡ ClientCaller OTHER }
+{
+    let is_ready = group.len() == 2 && group.holds(FIRST) && group.holds(SECOND);
+    assert!(rt; is_ready);
+    let are_left = first.is_empty() && second.is_empty();
+    assert!(rt; are_left);
+    let unlink = Event {
+        client: Some(OTHER),
+        sub: FIRST,
+        call: Call::Unlink,
+    };
+    let answer = unlink_rooms(words, pass, group, first, second, &unlink);
+    let receipt = Receipt {
+        sub: FIRST,
+        index: 10,
+    };
+    let told = Answer::Done {
+        reply: Reply::Ok,
+        receipt,
+        woken: 1,
+    };
+    assert_eq!(rt; answer, told);
+    assert_eq!(rt; pass.page(words, FIRST), page_of(12, State::Setup));
+    assert_eq!(rt; pass.page(words, SECOND), page_of(11, State::Draining));
+    let are_home = group.is_empty() && first.holds(FIRST) && second.holds(SECOND);
+    assert!(rt; are_home);
 }
 
 #[test]
@@ -268,5 +390,49 @@ fn one_member_plays(rt: HostRuntime) -> Result<(), Fail> {
 fn substreams_are_linked(rt: HostRuntime) -> Result<(), Fail> {
     let (words, maker) = SharedWords::new(rt.alloc(), 3)?;
     linking::<Brand, HostRuntime>(&rt, rt.alloc(), words, maker)?;
+    Ok(())
+}
+
+// Two that are linked are linked again, and what is left of their room is their logs and themselves.
+fn linking_again<N: FloorName, R: Abort>(
+    rt: &R,
+    alloc: Global,
+    words: SharedWords,
+    mut maker: Maker,
+) -> Result<(), AllocError>
+    requires table { words.table ≡ N.table }
+    requires cards { (words.cards ≡ 2) × (N.cards ≡ (basic, PlaybackDir) ∷ (basic, PlaybackDir) ∷ []) × (N.long_max ≡ 2147483647) }
+    requires maker { maker ≡ record { table = N.table; knows = record { recs = 0; passes = 0; roll = [] } } }
+{
+    let card = (Model::Basic, Dir::Playback);
+    let rec = Rec::<N>::new(alloc, maker.add_rec(&words));
+    let second_rec = Rec::<N>::new(alloc, maker.add_rec(&words));
+    let mut pass = Pass::<N>::new(maker.add_pass(&words), Caller::Client(CLIENT));
+    let mut first = Room::alone(alloc, rec, card, 2_147_483_647)?;
+    let mut second = Room::alone(alloc, second_rec, card, 2_147_483_647)?;
+    let mut group = Room::<N>::new(alloc, 16)?;
+    let p = &mut pass;
+    let _ = set_up(&mut first, &words, p, FIRST);
+    let _ = set_up(&mut second, &words, p, SECOND);
+    let link = by_client(FIRST, Call::Link(SECOND));
+    let _ = link_rooms(&words, p, &mut first, &mut second, &mut group, &link);
+    let are_here = group.holds(FIRST) && group.holds(SECOND);
+    assert!(rt; are_here);
+    let link = by_client(SECOND, Call::Link(FIRST));
+    let answer = link_within(&words, p, &mut group, &link);
+    let refused = Reply::Err(Errno::Ealready);
+    assert_eq!(rt; answer, done(SECOND, refused, 4, State::Setup, 0).0);
+    assert_eq!(rt; p.page(&words, FIRST), page_of(5, State::Setup));
+    assert_eq!(rt; p.page(&words, SECOND), page_of(5, State::Setup));
+    let (recs, members) = group.into_parts();
+    let is_whole = recs.len() == 2 && members.len() == 2;
+    assert!(rt; is_whole);
+    Ok(())
+}
+
+#[test]
+fn two_of_one_room_are_linked(rt: HostRuntime) -> Result<(), Fail> {
+    let (words, maker) = SharedWords::new(rt.alloc(), 2)?;
+    linking_again::<Brand, HostRuntime>(&rt, rt.alloc(), words, maker)?;
     Ok(())
 }

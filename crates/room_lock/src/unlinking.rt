@@ -95,6 +95,7 @@ pub(crate) fn tell_unlink<N: FloorName>(
     ensures reply { result.reply ≡ reply_of result.page.state room.old.number }
     ensures low { result.page.hw < 2 ^ 36 }
     ensures same { (room.new.group ≡ room.old.group) × (room.new.book.items ≡ room.old.book.items) × (room.new.number ≡ room.old.number) × (room.new.serial ≡ room.old.serial) }
+    ensures book { room.new.book ≡ room.old.book }
 {
     let page = page_at(room.group.members(), own);
     let reply = unlink_reply(page.state, room.number);

@@ -1,5 +1,6 @@
 -- What a pass holds of its calls stays when more is told, and when it makes the next one.
-use Rattle.std.proofs.Common.{◌≡◌, inl, inr, ℕ, suc, ◌+◌, true, ◌&&◌, nat_eq, List, [], ◌∷◌, ◌++◌, length, append_assoc, length-append, refl, sym, ap, ◌∙◌, subst, arith}
+use Rattle.std.proofs.Common.{◌≡◌, inl, inr, ℕ, suc, ◌+◌, ◌<◌, true, ◌&&◌, nat_eq, List, [], ◌∷◌, ◌++◌, length, append_assoc, length-append, refl, sym, ap, ◌∙◌, subst, arith}
+use Rattle.std.proofs.Math.Nat.{suc_inj}
 use Rattle.std.specs.declared.option.Option.{Option}
 use Rattle.std.proofs.lemmas.Bool.Decides.{nat_tests}
 use Rattle.pcm_base.specs.declared.call.Call.{Call}
@@ -18,7 +19,7 @@ use Rattle.floor_rule.specs.Pages.{AllReadOf, IsPageOf, pack_at}
 use Rattle.floor_rule.specs.Steps.{IsPage, told_by_rec, with_page}
 use Rattle.floor_rule.specs.Views.{both_lists}
 use Rattle.room_parts.specs.declared.pass.Caller.{Caller}
-use Rattle.room_parts.specs.Passes.{AllBy, AllLinked, AllStand, IsAlone, IsBusy, IsBy, IsLinked, PassStands, busy_after}
+use Rattle.room_parts.specs.Passes.{AllAtSubs, AllBy, AllLinked, AllStand, IsAlone, IsBusy, IsBy, IsLinked, PassStands, busy_after}
 
 -- all that stands in the one stands in the other
 abbrev pub More : List (ℕ × List Marked) → List (ℕ × List Marked) → Type 0
@@ -35,6 +36,12 @@ stand_more logs now number k (r ∷ rs) more h = ((h.0.0, more r.0 r.1 h.0.0 h.0
 stand_push : (logs : List (ℕ × List Marked)) (number k : ℕ) (rs : List (ℕ × ℕ)) (r : ℕ × ℕ) (e : Marked) → AllStand logs number k rs → Stands logs r.0 r.1 e → is_call number (k + length rs) e.mark ≡ true → AllStand logs number k (rs ++ r ∷ [])
 stand_push logs number k [] r e h at is = ((e, at, subst (λ n. is_call number n e.mark ≡ true) (omega arith) is), tt)
 stand_push logs number k (x ∷ rs) r e h at is = (h.0, stand_push logs number (suc k) rs r e h.1 at (subst (λ n. is_call number n e.mark ≡ true) (omega arith) is))
+
+subs_push : (n : ℕ) (cs : List Made) (rs : List (ℕ × ℕ)) (c : Made) (r : ℕ × ℕ) → length cs ≡ length rs → AllAtSubs n cs rs → r.0 ≡ c.event.sub.0 → r.0 < n → AllAtSubs n (cs ++ c ∷ []) (rs ++ r ∷ [])
+subs_push n [] [] c r e h same card = (same, card, tt)
+subs_push n (x ∷ cs) (y ∷ rs) c r e h same card = (h.0, h.1, subs_push n cs rs c r (suc_inj e) h.2 same card)
+subs_push n [] (y ∷ rs) c r e h same card = absurd (cc)
+subs_push n (x ∷ cs) [] c r e h same card = absurd (cc)
 
 busy_more : (logs now : List (ℕ × List Marked)) (busy : Option SubId) (rs : List (ℕ × ℕ)) → More logs now → IsBusy logs busy rs → IsBusy now busy rs
 busy_more logs now busy [] more h = h
@@ -76,6 +83,7 @@ stands_told n c busy p now number calls receipts more h = record {
   by = subst (AllBy c) (sym calls) h.by;
   idle = ap length calls ∙ h.idle ∙ sym (ap length receipts);
   stand = subst (λ (z : ℕ × List (ℕ × ℕ)). AllStand now.held.logs z.0 0 z.1) (λ i. (sym number i, sym receipts i)) (stand_more p.held.logs now.held.logs p.number 0 p.receipts more h.stand);
+  at_subs = subst (λ (z : List Made × List (ℕ × ℕ)). AllAtSubs n z.0 z.1) (λ i. (sym calls i, sym receipts i)) h.at_subs;
   busy_is = subst (IsBusy now.held.logs busy) (sym receipts) (busy_more p.held.logs now.held.logs busy p.receipts more h.busy_is);
   linked = subst (λ (z : ℕ × List Made). AllLinked n now.held.logs z.0 0 z.1) (λ i. (sym number i, sym calls i)) (linked_more n p.held.logs now.held.logs p.number 0 p.calls more h.linked);
 }
@@ -83,8 +91,8 @@ stands_told n c busy p now number calls receipts more h = record {
 -- the next call, whose entry e stands at its receipt
 pub stands_called : (n : ℕ) (c : Caller) (busy then : Option SubId) (p now : PassKnows) (made : Made) (r : ℕ × ℕ) (e : Marked) → now.number ≡ p.number → now.calls ≡ p.calls ++ made ∷ [] → now.receipts ≡ p.receipts ++ r ∷ [] → More p.held.logs now.held.logs
     → IsBy c made.event → Stands now.held.logs r.0 r.1 e → is_call p.number (length p.calls) e.mark ≡ true → then ≡ busy_after e.entry → IsLinked n now.held.logs p.number (length p.calls) made.event.call
-    → PassStands n c busy p → PassStands n c then now
-stands_called n c busy then p now made r e number calls receipts more by at is then_is linked h =
+    → r.0 ≡ made.event.sub.0 → r.0 < n → PassStands n c busy p → PassStands n c then now
+stands_called n c busy then p now made r e number calls receipts more by at is then_is linked same card h =
     let logs = now.held.logs in
     let stand = stand_push logs p.number 0 p.receipts r e (stand_more p.held.logs logs p.number 0 p.receipts more h.stand) at (subst (λ k. is_call p.number k e.mark ≡ true) (omega (arith, h.idle)) is) in
     let links = linked_push n logs p.number 0 p.calls made (linked_more n p.held.logs logs p.number 0 p.calls more h.linked) (subst (λ k. IsLinked n logs p.number k made.event.call) (omega arith) linked) in
@@ -92,6 +100,7 @@ stands_called n c busy then p now made r e number calls receipts more by at is t
       by = subst (AllBy c) (sym calls) (by_push c p.calls made h.by by);
       idle = ap length calls ∙ length-append p.calls (made ∷ []) ∙ ap (λ k. k + 1) h.idle ∙ sym (ap length receipts ∙ length-append p.receipts (r ∷ []));
       stand = subst (λ (z : ℕ × List (ℕ × ℕ)). AllStand logs z.0 0 z.1) (λ i. (sym number i, sym receipts i)) stand;
+      at_subs = subst (λ (z : List Made × List (ℕ × ℕ)). AllAtSubs n z.0 z.1) (λ i. (sym calls i, sym receipts i)) (subs_push n p.calls p.receipts made r h.idle h.at_subs same card);
       busy_is = subst (IsBusy logs then) (sym receipts) (busy_push logs then p.receipts r e at then_is);
       linked = subst (λ (z : ℕ × List Made). AllLinked n logs z.0 0 z.1) (λ i. (sym number i, sym calls i)) links;
     }

@@ -44,6 +44,12 @@ abbrev pub AllStand : List (ℕ × List Marked) → ℕ → ℕ → List (ℕ ×
 AllStand logs number k [] = Unit {0}
 AllStand logs number k (r ∷ rs) = ((e : Marked) × Stands logs r.0 r.1 e × (is_call number k e.mark ≡ true)) × AllStand logs number (suc k) rs
 
+-- the receipts of these calls are in the logs of their substreams, each one of so many cards
+abbrev pub AllAtSubs : ℕ → List Made → List (ℕ × ℕ) → Type 0
+AllAtSubs cards [] rs = Unit {0}
+AllAtSubs cards (c ∷ cs) [] = Unit {0}
+AllAtSubs cards (c ∷ cs) (r ∷ rs) = (r.0 ≡ c.event.sub.0) × (r.0 < cards) × AllAtSubs cards cs rs
+
 -- a call that was answered Asleep is in progress
 
 abbrev pub asleep_on : SubId → Reply → Option SubId
@@ -79,5 +85,6 @@ pub record PassStands (cards : ℕ) (caller : Caller) (busy : Option SubId) (p :
   pub by : AllBy caller p.calls
   pub idle : length p.calls ≡ length p.receipts
   pub stand : AllStand p.held.logs p.number 0 p.receipts
+  pub at_subs : AllAtSubs cards p.calls p.receipts
   pub busy_is : IsBusy p.held.logs busy p.receipts
   pub linked : AllLinked cards p.held.logs p.number 0 p.calls

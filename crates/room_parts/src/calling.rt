@@ -37,6 +37,7 @@ pub fn call_on<N: FloorName>(
     requires hw { hw < 2 ^ 36 }
     requires tells { Tells rec.old.knows.sub entry event.now }
     requires by { IsBy pass.old.caller event.now }
+    requires sub { event.now.sub.0 ≡ rec.old.knows.sub }
     requires alone { IsAlone (length N.cards) rec.old.knows.sub event.now.call }
     ensures same { (rec.new.knows.sub ≡ rec.old.knows.sub) × (rec.new.knows.place ≡ rec.old.knows.place) × (pass.new.knows.number ≡ pass.old.knows.number) × (pass.new.knows.reads ≡ pass.old.knows.reads) × (pass.new.caller ≡ pass.old.caller) }
     ensures spare { rec.new.spare + 1 ≡ rec.old.spare }

@@ -164,6 +164,7 @@ impl<N: FloorName> Rec<N> {
         requires table { words.now.table ≡ N.table }
         ensures same { self.new ≡ self.old }
         ensures note { result ≡ record { table = N.table; lists = told_by_rec self.old.knows } }
+        ensures backed { IsBackedByItself (length N.cards) self.old.knows }
     {
         self.seat.copy_note(words)
     }

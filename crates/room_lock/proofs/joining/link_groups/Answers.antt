@@ -1,7 +1,6 @@
 use Rattle.std.proofs.Common.{◌≡◌, nat_le, ℕ, length, inl, inr, ap, ◌∙◌, subst}
 use Rattle.card_emul.specs.declared.any_card.AnyCard.{AnyCard}
 use Rattle.card_emul.specs.contracts.any_card.AnyCardCard.TheImpl.{ghosts}
-use Rattle.pcm_base.specs.model.Acts.{subs}
 use Rattle.pcm_group.specs.Inside.{members_in}
 use Rattle.pcm_group.specs.declared.group.Group.{Group}
 use Rattle.room_book.specs.Rooms.{fresh_streams}

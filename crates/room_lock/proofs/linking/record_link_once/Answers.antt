@@ -29,6 +29,12 @@ call_on-requires-clause-tells g c =
     let card = c.requires.card r (slice_get_read xs (length xs) c.args.own r refl c.requires.place c.index_mut.ensures.value) in
     subst (λ (z : Entry × Event). Tells r.knows.sub z.0 z.1) (λ i. (sym c.entry.ensures i, sym c.event-event.ensures i)) (refl, inl card.1)
 
+pub call_on-requires-clause-sub : goal.call_on-requires-clause-sub
+call_on-requires-clause-sub g c =
+    let xs = c.args.recs.now.items in
+    let r = c.index_mut.result.now in
+    ap (λ (e : Event). e.sub.0) c.event-event.ensures ∙ (c.requires.card r (slice_get_read xs (length xs) c.args.own r refl c.requires.place c.index_mut.ensures.value)).1
+
 pub call_on-requires-clause-alone : goal.call_on-requires-clause-alone
 call_on-requires-clause-alone g c =
     let xs = c.args.recs.now.items in

@@ -25,6 +25,11 @@ call_on-requires-clause-tells g c =
     let xs = c.args.recs.now.items in
     (c.requires.tells c.index_mut.result.now (slice_get_read xs (length xs) c.args.own c.index_mut.result.now refl c.requires.own c.index_mut.ensures.value)).1
 
+pub call_on-requires-clause-sub : goal.call_on-requires-clause-sub
+call_on-requires-clause-sub g c =
+    let xs = c.args.recs.now.items in
+    c.requires.sub c.index_mut.result.now (slice_get_read xs (length xs) c.args.own c.index_mut.result.now refl c.requires.own c.index_mut.ensures.value)
+
 pub returns : goal.returns
 returns g c =
     let xs = c.args.recs.now.items in

@@ -35,5 +35,5 @@ invariant_of-pass g c =
       stands_called (length g.N.FloorName.cards) c.pass.inside.caller c.pass.inside.busy c.busy_on-pass-inside.result p now made (r.sub, length r.log) e did.same.2 did.calls did.receipt did.held.1.logs
           (subst (λ v. IsBy v c.args.event.now) (sym (ap (λ v. v.caller) c.pass.view_is)) c.requires.by) did.stands is c.busy_on-pass-inside.ensures
           (alone_linked (length g.N.FloorName.cards) now.held.logs p.number (length p.calls) r.sub (length r.log) e c.args.event.now.call (subst (λ j. IsAlone (length g.N.FloorName.cards) j c.args.event.now.call) (sym (ap (λ v. v.knows.sub) c.rec.view_is)) c.requires.alone) did.stands is)
-          c.pass.invariant.1,
+          (ap (λ v. v.knows.sub) c.rec.view_is ∙ sym c.requires.sub) c.rec.invariant.2 c.pass.invariant.1,
     )

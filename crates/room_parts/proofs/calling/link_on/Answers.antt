@@ -59,5 +59,5 @@ invariant_of-pass g c =
           (subst (λ (v : Event). IsBy c.pass.inside.caller v) (sym c.event-event.ensures) (subst (λ v. IsBy v (link_event c.args.link.now)) (sym (ap (λ v. v.caller) c.pass.view_is)) c.requires.by))
           did.first_stands (own_mark p.number (length p.calls) (length p.calls) 0 c.args.first_hw c.args.link.now.first_state refl) idle
           (subst (λ (v : Event). IsLinked n now.held.logs p.number (length p.calls) v.call) (sym c.event-event.ensures) linked)
-          c.pass.invariant.1,
+          (ap (λ v. v.knows.sub) c.first.view_is ∙ sym c.requires.names.0 ∙ ap (λ (v : Event). v.sub.0) (sym c.event-event.ensures)) c.first.invariant.2 c.pass.invariant.1,
     )

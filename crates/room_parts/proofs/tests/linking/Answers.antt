@@ -30,3 +30,8 @@ join-requires-clause-cause g c =
     let joint : Joint = record { act = act.Start; room = 16; serial = 0; vote = vote.Yes; outcome = outcome.Done } in
     let told : c.push.new.self ≡ joint ∷ [] = c.push.ensures ∙ ap (λ l. l ++ joint ∷ []) c.new-joints.ensures in
     (_, stands_third _ _ _ _ _ _ (ap (λ n. n.lists.logs) c.tell-news-3.ensures.note) first c.call_on.ensures.log count, subst (λ (js : List Joint). HasJoint js joint) (sym told) (inl (refl, refl, refl, refl)))
+
+pub call_on-requires-clause-sub : goal.call_on-requires-clause-sub
+call_on-requires-clause-sub g c =
+    let begun = c.reserve.ensures.same ∙ c.new-first.ensures ∙ ap (λ s. s.knows) c.add_rec.ensures.seat in
+    sym (ap (λ r. r.knows.sub) c.tell-news-2.ensures.same ∙ c.move_to.ensures.same ∙ ap (λ r. r.knows.sub) c.tell-news.ensures.same ∙ c.link_on.ensures.same.0 ∙ ap (λ k. k.sub) begun ∙ ap (λ m. m.knows.recs) c.requires.maker)
