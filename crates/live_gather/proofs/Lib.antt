@@ -1,0 +1,5 @@
+mod ListLemmas
+mod ToldLemmas
+mod LogLemmas
+mod OrderLemmas
+mod PieceLemmas
