@@ -1,2 +1,5 @@
 pub mod Turning
 pub mod Growing
+pub mod LinkFacts
+pub mod UnlinkFacts
+pub mod Counting

@@ -1,3 +1,5 @@
 pub mod Cards
 pub mod Passes
 pub mod Turns
+pub mod Links
+pub mod Unlinks

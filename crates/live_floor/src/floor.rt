@@ -1,5 +1,5 @@
 // A floor.
-ghost use Rattle.std.specs.Prelude.{◌≡◌, ◌≢◌, ◌≤◌, ◌<◌, ◌+◌, ◌^◌, ℕ, [], true, length, map, IfOk};
+ghost use Rattle.std.specs.Prelude.{◌≡◌, ◌≢◌, ◌≤◌, ◌<◌, ◌+◌, ◌^◌, ℕ, [], true, length, map, vec_len, vec_capacity, IfOk, IfSome};
 ghost use Rattle.std.specs.Option.{ForSome, is_none};
 ghost use Rattle.std.specs.Sync.Mutex.{mutex_guard_value};
 ghost use Rattle.pcm_base.specs.declared.reply.Reply.TheVariants.{Memory as MemoryReply};
@@ -14,56 +14,69 @@ ghost use Rattle.live_floor.specs.Passes.{IsGoOf, OfCards, OfClients};
 ghost use Rattle.live_floor.specs.Cards.{limits};
 ghost use Rattle.live_floor.specs.Turns.{IsRefusedInRoom, IsTurnOfRoom};
 
+use crate::counted::{CountedRoom, Tally};
 use crate::opening::{card_passes, client_passes, empty_rooms, lone_rooms};
 use crate::passes::Passes;
 use crate::turn::turn_in;
 use floor_rule::{Glance, Maker, SharedWords};
+use live_gather::{Gathered, Piece};
 use pcm_base::{Dir, Event, SubId};
-use room_lock::{Answer, Room};
+use room_lock::Answer;
 use room_parts::{FloorName, Pass};
 use std::alloc::{AllocError, Global};
-use std::marker::{Model, PhantomData};
+use std::marker::Model;
+use std::sync::ledger::{Blank, Ledger, Total};
 use std::sync::{Mutex, MutexGuard, Wait};
 
-// The maker of the seats of a floor: it has made them all, and taken none in.
+// What the gathering of a floor needs: the maker of its seats, which has made them all and taken none in, and room for a piece
+// and an entry of each card.
 #[derive(Drop)]
-struct Desk<N: FloorName> {
-    maker: Maker,
-    of: PhantomData<N>,
+pub(crate) struct Desk<N: FloorName> {
+    pub(crate) maker: Maker,
+    pub(crate) pieces: Vec<Piece<N>>,
+    pub(crate) all: Vec<Gathered>,
     ghost whole: { maker ≡ record { table = N.table; knows = record { recs = length N.cards; passes = 16 + length N.cards; roll = [] } } },
+    ghost pieces_room: { (vec_len pieces ≡ 0) × (16 ≤ vec_capacity pieces) },
+    ghost all_room: { (vec_len all ≡ 0) × (16 ≤ vec_capacity all) },
 }
 
 /// The substreams of up to 16 cards in 32 rooms behind locks. Room i below 16 holds substream i while that is not linked; the
 /// others hold groups of two or more. Any number of threads share a floor by reference, each with a pass of its own.
 /// Contracts see of which words it is, and of how many cards.
 #[derive(Drop)]
-pub struct Floor<N: FloorName> {
-    words: SharedWords,
-    maker: Mutex<Desk<N>>,
-    rooms: Vec<Mutex<Room<N>>>,
+pub struct Floor<N: FloorName + Ledger> {
+    pub(crate) words: SharedWords,
+    pub(crate) cards: usize,
+    pub(crate) maker: Mutex<Desk<N>>,
+    pub(crate) order: Mutex<()>,
+    pub(crate) rooms: Vec<Mutex<CountedRoom<N>>>,
+    pub(crate) total: Total<N>,
 }
 
-impl<N: FloorName> Model for Floor<N> {
-    ghost use Rattle.std.specs.Prelude.{◌≡◌, length, vec_len};
+impl<N: FloorName + Ledger> Model for Floor<N> {
+    ghost use Rattle.std.specs.Prelude.{◌≡◌, ◌≤◌, length, vec_len};
     ghost use Rattle.floor_rule.specs.Seats.{Words};
 
     ghost Value = { Words };
 
     ghost view = { λ f. f.words };
 
-    ghost invariant = { λ f. (f.words ≡ record { table = N.table; cards = length N.cards }) × (vec_len f.rooms ≡ 32) };
+    ghost invariant = { λ f. (f.words ≡ record { table = N.table; cards = length N.cards }) × (f.cards ≡ length N.cards) × (f.cards ≤ 16) × (vec_len f.rooms ≡ 32) × (f.total.parts ≡ 32) × (f.total.amount ≡ length N.cards) };
 }
 
-impl<N: FloorName> Floor<N> {
+impl<N: FloorName + Ledger> Floor<N> {
     /// The floor over new cards of these models and directions, in which no client has opened a substream, with a pass for
-    /// each of the 16 clients and one for each card. `words` and `maker` are new; `long_max` is LONG_MAX, below 2^36.
+    /// each of the 16 clients and one for each card. `blank` is a new ledger of 32 parts, by which no substream is lost
+    /// between rooms. `words` and `maker` are new; `long_max` is LONG_MAX, below 2^36.
     pub fn new(
         alloc: Global,
+        blank: Blank,
         words: SharedWords,
         mut maker: Maker,
         cards: &[(pcm_base::Model, Dir)],
         long_max: u64,
     ) -> Result<(Floor<N>, Passes<N>), AllocError>
+        requires ledger { (blank.name ≡ N.name) × (blank.parts ≡ N.parts) × (N.parts ≡ 32) }
         requires words { words ≡ record { table = N.table; cards = length cards.now } }
         requires maker { maker ≡ record { table = N.table; knows = record { recs = 0; passes = 0; roll = [] } } }
         requires cards { N.cards ≡ map limits cards.now }
@@ -73,20 +86,27 @@ impl<N: FloorName> Floor<N> {
         ensures cards { IfOk result (λ r. OfCards (length cards.now) r.1.cards.items) }
     {
         let mut rooms = Vec::with_capacity(alloc, 32)?;
-        lone_rooms(alloc, &mut rooms, &words, &mut maker, cards, long_max)?;
-        empty_rooms(alloc, &mut rooms)?;
+        let mut tally = Tally::open(blank);
+        lone_rooms(
+            alloc, &mut rooms, &mut tally, &words, &mut maker, cards, long_max,
+        )?;
+        empty_rooms(alloc, &mut rooms, &mut tally)?;
         let passes = Passes {
             clients: client_passes(alloc, &words, &mut maker)?,
             cards: card_passes(alloc, &words, &mut maker, cards.len())?,
         };
         let desk = Desk {
             maker,
-            of: PhantomData,
+            pieces: Vec::with_capacity(alloc, 16)?,
+            all: Vec::with_capacity(alloc, 16)?,
         };
         let floor = Floor {
             words,
+            cards: cards.len(),
             maker: Mutex::new(desk),
+            order: Mutex::new(()),
             rooms,
+            total: tally.close(),
         };
         Ok((floor, passes))
     }
@@ -103,24 +123,64 @@ impl<N: FloorName> Floor<N> {
 
     // The room in which a substream stands, locked. The place in the words may be an old one by the time that its room is
     // locked, and is then looked up again.
-    fn lock<'a, R: Wait>(
+    pub(crate) fn lock<'a, R: Wait>(
         &'a self,
         rt: &R,
         pass: &mut Pass<N>,
         sub: SubId,
-    ) -> MutexGuard<'a, Room<N>>
+    ) -> MutexGuard<'a, CountedRoom<N>>
         requires card { sub.0 < length N.cards }
-        ensures here { is_member sub (numbers_of (mutex_guard_value result).members) ≡ true }
+        ensures here { is_member sub (numbers_of (mutex_guard_value result).room.members) ≡ true }
         ensures same { pass.new ≡ pass.old }
     {
         for _ in rt.forever() {
             let place = pass.place(&self.words, sub);
-            let room = self.rooms[place as usize].lock(rt);
-            if room.holds(sub) {
-                return room;
+            let found = self.rooms[place as usize].lock(rt);
+            if found.room.holds(sub) {
+                return found;
             }
         }
         unreachable!()
+    }
+
+    // The rooms at two places that differ, locked in order of number.
+    pub(crate) fn lock_two<'a, R: Wait>(
+        &'a self,
+        rt: &R,
+        one: u32,
+        two: u32,
+    ) -> (
+        MutexGuard<'a, CountedRoom<N>>,
+        MutexGuard<'a, CountedRoom<N>>,
+    )
+        requires places { (one < 32) × (two < 32) }
+    {
+        if one < two {
+            let first = self.rooms[one as usize].lock(rt);
+            let second = self.rooms[two as usize].lock(rt);
+            return (first, second);
+        }
+        let second = self.rooms[two as usize].lock(rt);
+        let first = self.rooms[one as usize].lock(rt);
+        (first, second)
+    }
+
+    // The lowest room above 15 in which nobody stands, locked.
+    pub(crate) fn lock_empty<'a, R: Wait>(
+        &'a self,
+        rt: &R,
+    ) -> Option<MutexGuard<'a, CountedRoom<N>>>
+        ensures empty { IfSome result (λ g. (mutex_guard_value g).room.members ≡ []) }
+        ensures above { IfSome result (λ g. (16 ≤ (mutex_guard_value g).room.number) × ((mutex_guard_value g).room.number < 32)) }
+    {
+        for i in 16..32 {
+            let found = self.rooms[i].lock(rt);
+            let number = found.room.number();
+            if 16 <= number && number < 32 && found.room.is_empty() {
+                return Some(found);
+            }
+        }
+        None
     }
 
     /// An event of a substream, with the bytes of its call, by a pass of its caller: one step of the group in which the
@@ -145,7 +205,7 @@ impl<N: FloorName> Floor<N> {
         ensures memory { OnMemory result ((pass.new ≡ pass.old) × (io.new ≡ io.old)) }
         ensures caller { (pass.new.caller ≡ pass.old.caller) × (pass.new.knows.number ≡ pass.old.knows.number) }
     {
-        let mut room = self.lock(rt, pass, event.sub);
-        turn_in(&mut *room, &self.words, pass, event, io)
+        let mut found = self.lock(rt, pass, event.sub);
+        turn_in(&mut *found, &self.words, pass, event, io)
     }
 }

@@ -3,17 +3,20 @@ ghost use Rattle.std.specs.Prelude.{◌≡◌, ◌≤◌, ◌<◌, ◌+◌, ◌^
 ghost use Rattle.live_floor.specs.Cards.{limits};
 ghost use Rattle.live_floor.specs.Passes.{OfCards, OfClients};
 
+use crate::counted::{CountedRoom, Tally};
 use floor_rule::{Maker, SharedWords};
 use pcm_base::{ClientId, Dir, Model, SubId};
 use room_lock::Room;
 use room_parts::{Caller, FloorName, Pass, Rec};
 use std::alloc::{AllocError, Global};
 use std::sync::Mutex;
+use std::sync::ledger::Ledger;
 
 /// The rooms of the substreams, each over a new card.
-pub(crate) fn lone_rooms<N: FloorName>(
+pub(crate) fn lone_rooms<N: FloorName + Ledger>(
     alloc: Global,
-    rooms: &mut Vec<Mutex<Room<N>>>,
+    rooms: &mut Vec<Mutex<CountedRoom<N>>>,
+    tally: &mut Tally<N>,
     words: &SharedWords,
     maker: &mut Maker,
     cards: &[(Model, Dir)],
@@ -25,28 +28,33 @@ pub(crate) fn lone_rooms<N: FloorName>(
     requires few { length cards.now ≤ 16 }
     requires long { (N.long_max ≡ long_max) × (long_max < 2 ^ 36) }
     requires room { (vec_len rooms.old ≡ 0) × (32 ≤ vec_capacity rooms.old) }
+    requires tally { (tally.old.rest.parts ≡ 32) × (tally.old.book.total ≡ 0) }
+    ensures tally { OnOk result ((tally.new.rest.parts + length cards.now ≡ 32) × (tally.new.book.total ≡ length cards.now)) }
     ensures rooms { OnOk result ((vec_len rooms.new ≡ length cards.now) × (32 ≤ vec_capacity rooms.new)) }
     ensures maker { OnOk result (maker.new ≡ record { table = N.table; knows = record { recs = length cards.now; passes = 0; roll = [] } }) }
 {
     for i in 0..cards.len() {
         let rec = Rec::new(alloc, maker.add_rec(words));
         let room = Room::alone(alloc, rec, cards[i], long_max)?;
-        rooms.push_reserved(Mutex::new(room));
+        rooms.push_reserved(Mutex::new(tally.count(room, 1)));
     }
     Ok(())
 }
 
 /// The rooms behind those, up to 32, in which nobody stands.
-pub(crate) fn empty_rooms<N: FloorName>(
+pub(crate) fn empty_rooms<N: FloorName + Ledger>(
     alloc: Global,
-    rooms: &mut Vec<Mutex<Room<N>>>,
+    rooms: &mut Vec<Mutex<CountedRoom<N>>>,
+    tally: &mut Tally<N>,
 ) -> Result<(), AllocError>
     requires room { (vec_len rooms.old ≤ 32) × (32 ≤ vec_capacity rooms.old) }
-    ensures { OnOk result (vec_len rooms.new ≡ 32) }
+    requires tally { tally.old.rest.parts + vec_len rooms.old ≡ 32 }
+    ensures rooms { OnOk result (vec_len rooms.new ≡ 32) }
+    ensures total { OnOk result (tally.new.book.total ≡ tally.old.book.total) }
 {
     for number in rooms.len()..32 {
         let room = Room::new(alloc, number as u32)?;
-        rooms.push_reserved(Mutex::new(room));
+        rooms.push_reserved(Mutex::new(tally.count(room, 0)));
     }
     Ok(())
 }

@@ -1,16 +1,17 @@
-// A client plays on a floor of one card: four frames are written, three are taken, and the card interrupts.
-ghost use Rattle.std.specs.Prelude.{◌≡◌, ◌<◌, ◌≤◌, ◌∷◌, [], true, length};
+// Floors of one card: a client plays, and two clients ask at once. A floor of three: links, a start that all follow, and
+// unlinks.
+ghost use Rattle.std.specs.Prelude.{◌≡◌, ◌<◌, ◌≤◌, ◌∷◌, [], true, false, length};
 ghost use Rattle.std.specs.Option.{ForSome, is_none};
 ghost use Rattle.card_emul.specs.Limits.{basic};
-ghost use Rattle.pcm_base.specs.declared.state.Dir.TheVariants.{Playback as PlaybackDir};
+ghost use Rattle.pcm_base.specs.declared.state.Dir.TheVariants.{Capture as CaptureDir, Playback as PlaybackDir};
 ghost use Rattle.pcm_group.specs.Turn.{is_card_event, is_group_call};
 ghost use Rattle.room_parts.specs.Passes.{IsBy};
 
 use super::*;
 use floor_rule::{Glance, Maker, SharedWords};
 use pcm_base::{
-    Access, Call, ClientId, Config, Dir, Event, Format, Layout, Mode, Model, Page, Reply, State,
-    SubId,
+    Access, Call, ClientId, Config, Dir, Errno, Event, Format, Layout, Mode, Model, Page, Reply,
+    State, SubId,
 };
 use room_lock::{Answer, Receipt};
 use room_parts::{FloorName, Pass};
@@ -18,11 +19,17 @@ use std::alloc::Global;
 use std::marker::Brand;
 use std::process::Abort;
 use std::sync::Wait;
+use std::sync::ledger::{Blank, Ledger};
 use std::test::Fail;
+use std::thread::{Threads, join};
 
 const CLIENT: ClientId = ClientId(0);
 
 const CARD: SubId = SubId(0);
+
+const OTHER: SubId = SubId(1);
+
+const THIRD: SubId = SubId(2);
 
 // Two periods of two one-byte frames.
 const SMALL: Config = Config {
@@ -35,7 +42,7 @@ const SMALL: Config = Config {
 };
 
 // What an event was answered, and what the page shows then. A pass with a call in progress makes none.
-fn answered<N: FloorName, R: Wait>(
+fn answered<N: FloorName + Ledger, R: Wait>(
     rt: &R,
     floor: &Floor<N>,
     pass: &mut Pass<N>,
@@ -95,18 +102,20 @@ fn done(reply: Reply, index: u32, state: State, hw: u64) -> (Answer, Glance)
     (answer, page)
 }
 
-fn playing<N: FloorName, R: Abort + Wait>(
+fn playing<N: FloorName + Ledger, R: Abort + Wait>(
     rt: &R,
     alloc: Global,
+    blank: Blank,
     words: SharedWords,
     maker: Maker,
 ) -> Result<(), Fail>
+    requires ledger { (blank.name ≡ N.name) × (blank.parts ≡ N.parts) × (N.parts ≡ 32) }
     requires words { words ≡ record { table = N.table; cards = 1 } }
     requires cards { (N.cards ≡ (basic, PlaybackDir) ∷ []) × (N.long_max ≡ 2147483647) }
     requires maker { maker ≡ record { table = N.table; knows = record { recs = 0; passes = 0; roll = [] } } }
 {
     let cards = [(Model::Basic, Dir::Playback)];
-    let (floor, passes) = Floor::<N>::new(alloc, words, maker, &cards, 2_147_483_647)?;
+    let (floor, passes) = Floor::<N>::new(alloc, blank, words, maker, &cards, 2_147_483_647)?;
     let mut clients = passes.clients;
     let mut of_cards = passes.cards;
     let client = &mut clients[0];
@@ -145,5 +154,217 @@ fn playing<N: FloorName, R: Abort + Wait>(
 #[test]
 fn a_client_plays_on_a_floor(rt: HostRuntime) -> Result<(), Fail> {
     let (words, maker) = SharedWords::new(rt.alloc(), 1)?;
-    playing::<Brand, HostRuntime>(&rt, rt.alloc(), words, maker)
+    playing::<Brand, HostRuntime>(&rt, rt.alloc(), Blank::new(32), words, maker)
+}
+
+// What a call of the client of a pass is answered. A pass with a call in progress makes none.
+fn asked<N: FloorName + Ledger, R: Wait>(
+    rt: &R,
+    floor: &Floor<N>,
+    pass: &mut Pass<N>,
+    sub: SubId,
+    call: Call,
+) -> Answer
+    requires card { sub.0 < length N.cards }
+    requires call { (is_group_call call ≡ true) × (is_card_event call ≡ false) }
+{
+    let Some(client) = pass.client() else {
+        return Answer::Memory;
+    };
+    if client.0 > 15 || pass.busy().is_some() {
+        return Answer::Memory;
+    }
+    let event = Event {
+        client: Some(client),
+        sub,
+        call,
+    };
+    floor.call(rt, pass, &event, &mut [])
+}
+
+fn ask_thrice<N: FloorName + Ledger, R: Wait>(rt: &R, floor: &Floor<N>, pass: &mut Pass<N>)
+    requires card { 0 < length N.cards }
+{
+    for _ in 0..3 {
+        asked(rt, floor, pass, CARD, Call::Status);
+    }
+}
+
+// Two clients ask from threads of their own, after one of them has opened the card.
+fn asking<N: FloorName + Ledger + Send + Sync, R: Abort + Threads + Wait + Sync>(
+    rt: &R,
+    alloc: Global,
+    blank: Blank,
+    words: SharedWords,
+    maker: Maker,
+) -> Result<(), Fail>
+    requires ledger { (blank.name ≡ N.name) × (blank.parts ≡ N.parts) × (N.parts ≡ 32) }
+    requires words { words ≡ record { table = N.table; cards = 1 } }
+    requires cards { (N.cards ≡ (basic, PlaybackDir) ∷ []) × (N.long_max ≡ 2147483647) }
+    requires maker { maker ≡ record { table = N.table; knows = record { recs = 0; passes = 0; roll = [] } } }
+{
+    let cards = [(Model::Basic, Dir::Playback)];
+    let (floor, passes) = Floor::<N>::new(alloc, blank, words, maker, &cards, 2_147_483_647)?;
+    let mut clients = passes.clients;
+    let f = &floor;
+    let open = by_client(Call::OpenSub);
+    let got = answered(rt, f, &mut clients[0], open, &mut []);
+    assert_eq!(rt; got, done(Reply::Ok, 0, State::Opened, 0));
+    let (front, back) = clients.split_at_mut(1);
+    let one = &mut front[0];
+    let two = &mut back[0];
+    join(
+        rt,
+        ||
+            requires { 0 < length N.cards }
+        { ask_thrice(rt, f, one) },
+        ||
+            requires { 0 < length N.cards }
+        { ask_thrice(rt, f, two) },
+    );
+    let page = floor.page(&mut clients[0], CARD);
+    assert_eq!(rt; page.count, 7);
+    Ok(())
+}
+
+#[test]
+fn two_clients_ask_at_once(rt: HostRuntime) -> Result<(), Fail> {
+    let (words, maker) = SharedWords::new(rt.alloc(), 1)?;
+    asking::<Brand, HostRuntime>(&rt, rt.alloc(), Blank::new(32), words, maker)
+}
+
+// What a link by the client of a pass is answered. A pass with a call in progress makes none.
+fn linked<N: FloorName + Ledger, R: Wait>(
+    rt: &R,
+    floor: &Floor<N>,
+    pass: &mut Pass<N>,
+    first: SubId,
+    second: SubId,
+) -> Answer
+    requires card { first.0 < length N.cards }
+{
+    match (pass.client(), pass.busy()) {
+        (Some(_), None) => floor.link(rt, pass, first, second),
+        _ => Answer::Memory,
+    }
+}
+
+// What an unlink is answered.
+fn unlinked<N: FloorName + Ledger, R: Wait>(
+    rt: &R,
+    floor: &Floor<N>,
+    pass: &mut Pass<N>,
+    sub: SubId,
+) -> Answer
+    requires card { sub.0 < length N.cards }
+{
+    match (pass.client(), pass.busy()) {
+        (Some(_), None) => floor.unlink(rt, pass, sub),
+        _ => Answer::Memory,
+    }
+}
+
+// The answer of the call whose entry is the one at this place of a log.
+fn at(sub: SubId, index: u32, reply: Reply) -> Answer {
+    Answer::Done {
+        reply,
+        receipt: Receipt { sub, index },
+        woken: 0,
+    }
+}
+
+// How many entries the log of a card has, and its state.
+fn shown<N: FloorName + Ledger>(floor: &Floor<N>, pass: &mut Pass<N>, sub: SubId) -> (u32, State)
+    requires card { sub.0 < length N.cards }
+{
+    let page = floor.page(pass, sub);
+    (page.count, page.state)
+}
+
+// Each of three cards is opened and set up.
+fn set_up<N: FloorName + Ledger, R: Abort + Wait>(rt: &R, floor: &Floor<N>, pass: &mut Pass<N>)
+    requires cards { length N.cards ≡ 3 }
+{
+    for i in 0..3 {
+        let sub = SubId(i);
+        let got = asked(rt, floor, pass, sub, Call::OpenSub);
+        assert_eq!(rt; got, at(sub, 0, Reply::Ok));
+        let got = asked(rt, floor, pass, sub, Call::HwParams(SMALL));
+        assert_eq!(rt; got, at(sub, 1, Reply::Ok));
+    }
+}
+
+// A link to the same card is refused, and so are one to no card, and one of two that are linked. Two meet, and a third joins.
+fn link_all<N: FloorName + Ledger, R: Abort + Wait>(rt: &R, f: &Floor<N>, pass: &mut Pass<N>)
+    requires cards { length N.cards ≡ 3 }
+{
+    let got = linked(rt, f, pass, CARD, CARD);
+    assert_eq!(rt; got, at(CARD, 2, Reply::Err(Errno::Einval)));
+    let got = linked(rt, f, pass, CARD, SubId(9));
+    assert_eq!(rt; got, at(CARD, 3, Reply::Err(Errno::Enxio)));
+    let got = linked(rt, f, pass, CARD, OTHER);
+    assert_eq!(rt; got, at(CARD, 4, Reply::Ok));
+    let got = linked(rt, f, pass, CARD, OTHER);
+    assert_eq!(rt; got, at(CARD, 6, Reply::Err(Errno::Ealready)));
+    let got = linked(rt, f, pass, OTHER, THIRD);
+    assert_eq!(rt; got, at(OTHER, 5, Reply::Ok));
+    assert_eq!(rt; shown(f, pass, CARD), (7, State::Setup));
+    assert_eq!(rt; shown(f, pass, OTHER), (6, State::Setup));
+    assert_eq!(rt; shown(f, pass, THIRD), (4, State::Setup));
+}
+
+// All are prepared and start together. The third goes, and then the two that are left part.
+fn start_and_part<N: FloorName + Ledger, R: Abort + Wait>(rt: &R, f: &Floor<N>, pass: &mut Pass<N>)
+    requires cards { length N.cards ≡ 3 }
+{
+    let got = asked(rt, f, pass, CARD, Call::Prepare);
+    assert_eq!(rt; got, at(CARD, 7, Reply::Ok));
+    let got = asked(rt, f, pass, THIRD, Call::Start);
+    assert_eq!(rt; got, at(THIRD, 5, Reply::Ok));
+    assert_eq!(rt; shown(f, pass, CARD), (9, State::Running));
+    assert_eq!(rt; shown(f, pass, OTHER), (8, State::Running));
+    let got = unlinked(rt, f, pass, THIRD);
+    assert_eq!(rt; got, at(THIRD, 6, Reply::Ok));
+    let got = unlinked(rt, f, pass, CARD);
+    assert_eq!(rt; got, at(CARD, 9, Reply::Ok));
+    let got = unlinked(rt, f, pass, CARD);
+    assert_eq!(rt; got, at(CARD, 11, Reply::Err(Errno::Ealready)));
+}
+
+// What one client does with all cards, and a call of another on a card that has been linked and unlinked.
+fn linking<N: FloorName + Ledger, R: Abort + Wait>(
+    rt: &R,
+    alloc: Global,
+    blank: Blank,
+    words: SharedWords,
+    maker: Maker,
+) -> Result<(), Fail>
+    requires ledger { (blank.name ≡ N.name) × (blank.parts ≡ N.parts) × (N.parts ≡ 32) }
+    requires words { words ≡ record { table = N.table; cards = 3 } }
+    requires cards { (N.cards ≡ (basic, CaptureDir) ∷ (basic, CaptureDir) ∷ (basic, CaptureDir) ∷ []) × (N.long_max ≡ 2147483647) }
+    requires maker { maker ≡ record { table = N.table; knows = record { recs = 0; passes = 0; roll = [] } } }
+{
+    let cards = [(Model::Basic, Dir::Capture); 3];
+    let (floor, passes) = Floor::<N>::new(alloc, blank, words, maker, &cards, 2_147_483_647)?;
+    let mut clients = passes.clients;
+    set_up(rt, &floor, &mut clients[0]);
+    link_all(rt, &floor, &mut clients[0]);
+    start_and_part(rt, &floor, &mut clients[0]);
+    assert_eq!(rt; shown(&floor, &mut clients[1], OTHER), (9, State::Running));
+    let got = asked(rt, &floor, &mut clients[1], OTHER, Call::DropNow);
+    assert_eq!(rt; got, at(OTHER, 9, Reply::Ok));
+    let all = floor.gather(Passes {
+        clients,
+        cards: passes.cards,
+    });
+    assert_eq!(rt; all.len(), 3);
+    assert_eq!(rt; all[1].log.sub, OTHER);
+    assert_eq!(rt; all[1].log.entries.len(), 10);
+    Ok(())
+}
+
+#[test]
+fn cards_are_linked_start_and_part(rt: HostRuntime) -> Result<(), Fail> {
+    let (words, maker) = SharedWords::new(rt.alloc(), 3)?;
+    linking::<Brand, HostRuntime>(&rt, rt.alloc(), Blank::new(32), words, maker)
 }

@@ -10,21 +10,23 @@ ghost use Rattle.room_lock.specs.Answers.{OnDone, OnFull, OnMemory};
 ghost use Rattle.room_lock.specs.Known.{Knows};
 ghost use Rattle.live_floor.specs.Turns.{IsRefusedInRoom, IsTurnOfRoom};
 
+use crate::counted::CountedRoom;
 use floor_rule::SharedWords;
 use pcm_base::Event;
-use room_lock::{Answer, Room};
+use room_lock::Answer;
 use room_parts::{FloorName, Pass};
+use std::sync::ledger::Ledger;
 
 /// An event of a member, as `Room::turn` says, with the room that it found.
-pub(crate) fn turn_in<N: FloorName>(
-    room: &mut Room<N>,
+pub(crate) fn turn_in<N: FloorName + Ledger>(
+    found: &mut CountedRoom<N>,
     words: &SharedWords,
     pass: &mut Pass<N>,
     event: &Event,
     io: &mut [u8],
 ) -> Answer
     requires words { (words.now.table ≡ N.table) × (words.now.cards ≡ length N.cards) }
-    requires here { is_member event.now.sub (numbers_of room.old.members) ≡ true }
+    requires here { is_member event.now.sub (numbers_of found.old.room.members) ≡ true }
     requires call { is_group_call event.now.call ≡ true }
     requires caller { is_card_event event.now.call ≡ is_none event.now.client }
     requires client { ForSome event.now.client (λ c. c.0 ≤ 15) }
@@ -37,6 +39,6 @@ pub(crate) fn turn_in<N: FloorName>(
     ensures memory { OnMemory result ((pass.new ≡ pass.old) × (io.new ≡ io.old)) }
     ensures caller { (pass.new.caller ≡ pass.old.caller) × (pass.new.knows.number ≡ pass.old.knows.number) }
 {
-    let _number = room.number();
-    room.turn(words, pass, event, io)
+    let _number = found.room.number();
+    found.room.turn(words, pass, event, io)
 }
