@@ -2,6 +2,7 @@
 use Rattle.std.proofs.Common.{◌≡◌, inl, inr, ℕ, suc, ◌+◌, ◌<◌, true, ◌&&◌, nat_eq, List, [], ◌∷◌, ◌++◌, length, append_assoc, length-append, refl, sym, ap, ◌∙◌, subst, arith}
 use Rattle.std.proofs.Math.Nat.{suc_inj}
 use Rattle.std.specs.declared.option.Option.{Option}
+use Rattle.std.specs.declared.option.Option.TheVariants.{None as Nowhere}
 use Rattle.std.proofs.lemmas.Bool.Decides.{nat_tests}
 use Rattle.pcm_base.specs.declared.call.Call.{Call}
 use Rattle.pcm_base.specs.declared.call.Call.TheVariants as call
@@ -76,6 +77,17 @@ own_mark number n k count hw state e =
     let a : nat_eq number number ≡ true = grind (arith, nat_tests) in
     let b : nat_eq n k ≡ true = grind (arith, nat_tests, e) in
     ap (λ x. x && nat_eq n k) a ∙ b
+
+-- a pass without calls
+pub stands_new : (n : ℕ) (c : Caller) (p : PassKnows) → p.calls ≡ [] → p.receipts ≡ [] → PassStands n c Nowhere p
+stands_new n c p calls receipts = record {
+  by = subst (AllBy c) (sym calls) tt;
+  idle = ap length calls ∙ sym (ap length receipts);
+  stand = subst (AllStand p.held.logs p.number 0) (sym receipts) tt;
+  at_subs = subst (λ (z : List Made). AllAtSubs n z p.receipts) (sym calls) tt;
+  busy_is = subst (IsBusy p.held.logs Nowhere) (sym receipts) refl;
+  linked = subst (AllLinked n p.held.logs p.number 0) (sym calls) tt;
+}
 
 -- what a pass holds of its calls stays where more is told
 pub stands_told : (n : ℕ) (c : Caller) (busy : Option SubId) (p now : PassKnows) → now.number ≡ p.number → now.calls ≡ p.calls → now.receipts ≡ p.receipts → More p.held.logs now.held.logs → PassStands n c busy p → PassStands n c busy now

@@ -1,2 +1,3 @@
 mod Backing
 mod Calls
+mod Seen

@@ -2,3 +2,4 @@ pub mod Names
 pub mod Recs
 pub mod Passes
 pub mod Links
+pub mod Seen

@@ -1,5 +1,6 @@
 -- What a contract sees of a rec. This project's own.
 use Rattle.std.specs.Prelude.{ℕ, ◌<◌, List, [], ◌∷◌, map}
+use Rattle.pcm_base.specs.declared.ids.SubId.{SubId}
 use Rattle.floor_rule.specs.declared.entry.Entry.{Entry}
 use Rattle.floor_rule.specs.declared.entry.EntryMark.{EntryMark}
 use Rattle.floor_rule.specs.declared.entry.EntryMark.TheVariants as mark
@@ -13,6 +14,13 @@ use Rattle.floor_rule.specs.Lists.{Stands}
 pub record RecView : Type 0 where
   pub knows : RecKnows
   pub spare : ℕ
+
+-- the substream of a rec
+abbrev pub sub_of : RecView → SubId
+sub_of r = record { 0 = r.knows.sub }
+
+abbrev pub subs_of : List RecView → List SubId
+subs_of rs = map sub_of rs
 
 -- a log without its marks
 abbrev pub entries_of : List Marked → List Entry

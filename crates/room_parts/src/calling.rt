@@ -11,7 +11,7 @@ ghost use Rattle.room_parts.specs.Links.{link_entry, link_event};
 ghost use Rattle.room_parts.specs.Passes.{IsAlone, IsBy, busy_after};
 
 use crate::name::FloorName;
-use crate::pass::{Pass, busy_on};
+use crate::pass::{Pass, busy_on, raise};
 use crate::rec::Rec;
 use floor_rule::{Entry, Glance, SharedWords, link_call, own_call};
 use pcm_base::{Call, ClientId, Event, Reply, State, SubId};
@@ -60,6 +60,7 @@ pub fn call_on<N: FloorName>(
         hw,
     );
     pass.busy = busy_on(&entry);
+    raise(&mut pass.seen, rec.seat.sub(), rec.seat.count());
     rec.entries.push_reserved(entry);
 }
 
@@ -135,6 +136,7 @@ pub fn link_on<N: FloorName>(
     ensures second_list { longest second.old.knows.sub pass.new.knows.held.logs ≡ second.new.knows.log }
     ensures first_onward { IsPrefix (longest first.old.knows.sub pass.old.knows.held.logs) (longest first.old.knows.sub pass.new.knows.held.logs) }
     ensures second_onward { IsPrefix (longest second.old.knows.sub pass.old.knows.held.logs) (longest second.old.knows.sub pass.new.knows.held.logs) }
+    ensures pass_held { HoldsMore pass.old.knows.held pass.new.knows.held }
 {
     let event = link.event();
     let entry = link.entry();
@@ -149,6 +151,7 @@ pub fn link_on<N: FloorName>(
         (link.second_state, second_hw),
     );
     pass.busy = None;
+    raise(&mut pass.seen, first.seat.sub(), first.seat.count());
     first.entries.push_reserved(entry);
     second.entries.push_reserved(link.entry());
 }

@@ -19,7 +19,7 @@ fn linking<N: FloorName>(
     alloc: Global,
     words: SharedWords,
     mut maker: Maker,
-) -> Result<([Glance; 2], [usize; 2]), AllocError>
+) -> Result<([Glance; 2], [u32; 3], [usize; 2]), AllocError>
     requires table { words.table ≡ N.table }
     requires cards { (words.cards ≡ 2) × (length N.cards ≡ 2) }
     requires maker { maker ≡ record { table = N.table; knows = record { recs = 0; passes = 0; roll = [] } } }
@@ -74,12 +74,14 @@ fn linking<N: FloorName>(
         State::Running,
         0,
     );
+    let called = pass.seen(FIRST);
     let news = first.tell(&words);
     second.join(&words, news, joint, State::Running, 0, FIRST, 2);
     let seen = full_page(&words, &mut first, &mut pass);
     let other = pass.page(&words, SECOND);
     Ok((
         [seen, other],
+        [called, pass.seen(SECOND), pass.seen(SubId(255))],
         [first.entries().len(), second.entries().len()],
     ))
 }
@@ -95,7 +97,8 @@ fn two_cards_are_linked_and_started(rt: HostRuntime) -> Result<(), Fail> {
     let seen = linking::<Brand>(rt.alloc(), words, maker)?;
     assert_eq!(rt; seen.0[0], page);
     assert_eq!(rt; seen.0[1], page);
-    assert_eq!(rt; seen.1[0], 3);
-    assert_eq!(rt; seen.1[1], 3);
+    assert_eq!(rt; seen.1, [3, 3, 0]);
+    assert_eq!(rt; seen.2[0], 3);
+    assert_eq!(rt; seen.2[1], 3);
     Ok(())
 }

@@ -1,4 +1,4 @@
-use Rattle.std.proofs.Common.{◌≡◌, ◌∷◌, ◌++◌, [], ◌<◌, length, sym, ap, refl, ◌∙◌, subst}
+use Rattle.std.proofs.Common.{◌≡◌, ◌∷◌, ◌++◌, [], ◌+◌, ◌<◌, length, length-append, sym, ap, refl, ◌∙◌, subst}
 use Rattle.std.specs.declared.option.Option.TheVariants.{None as Nowhere}
 use Rattle.pcm_base.specs.declared.call.Event.{Event}
 use Rattle.floor_rule.specs.declared.entry.EntryMark.TheVariants.{Called}
@@ -12,6 +12,7 @@ use Rattle.room_parts.specs.Passes.{IsBy, IsLinked, busy_after}
 use Rattle.room_parts.specs.Recs.{entries_of}
 use Rattle.room_parts.proofs.Backing.{entered_after, entries_push}
 use Rattle.room_parts.proofs.Calls.{own_mark, stands_called}
+use Rattle.room_parts.proofs.Seen.{remembers_receipt}
 use Rattle.room_parts.proofs.calling.link_on.Goals as goal
 
 pub invariant_of-first : goal.invariant_of-first
@@ -50,6 +51,9 @@ invariant_of-pass g c =
     let f : Marked = record { entry = c.entry-entry.result; mark = Called c.args.link.now.second_state c.args.second_hw p.number (length p.calls) 0 } in
     let made : Made = record { event = c.event-event.result; count = 0 } in
     let did = c.link_call.ensures in
+    let sub : c.sub.result.0 ≡ r.sub = c.sub.ensures ∙ did.same.0 in
+    let count : c.count.result ≡ length r.log + 1 = c.count.ensures ∙ ap length did.first ∙ length-append r.log (e ∷ []) in
+    let table = remembers_receipt c.pass.inside.seen c.raise.new.seen p now (r.sub, length r.log) c.sub.result.0 c.count.result sub count c.pass.invariant.2 c.raise.ensures.within c.raise.ensures.raised did.same.5 did.receipt c.pass.invariant.3 in
     let second : c.args.link.now.second.0 ≡ q.sub = c.requires.names.1 ∙ sym (ap (λ v. v.knows.sub) c.second.view_is) in
     let there : Stands now.held.logs c.args.link.now.second.0 (length q.log) f = subst (λ j. Stands now.held.logs j (length q.log) f) (sym second) did.second_stands in
     let linked : IsLinked n now.held.logs p.number (length p.calls) (link_event c.args.link.now).call = λ lt. (length q.log, f, there, own_mark p.number (length p.calls) (length p.calls) 0 c.args.second_hw c.args.link.now.second_state refl) in
@@ -60,4 +64,6 @@ invariant_of-pass g c =
           did.first_stands (own_mark p.number (length p.calls) (length p.calls) 0 c.args.first_hw c.args.link.now.first_state refl) idle
           (subst (λ (v : Event). IsLinked n now.held.logs p.number (length p.calls) v.call) (sym c.event-event.ensures) linked)
           (ap (λ v. v.knows.sub) c.first.view_is ∙ sym c.requires.names.0 ∙ ap (λ (v : Event). v.sub.0) (sym c.event-event.ensures)) c.first.invariant.2 c.pass.invariant.1,
+      table.0,
+      table.1,
     )
