@@ -16,10 +16,9 @@ use Rattle.room_book.specs.Rooms.{acts_in}
 use Rattle.room_book.specs.declared.book.BookEntry.{BookEntry}
 use Rattle.room_book.specs.declared.book.BookEntry.TheVariants.{In, Out, Act}
 use Rattle.room_parts.specs.Passes.{PassView}
-use Rattle.room_parts.specs.Recs.{RecView}
+use Rattle.room_parts.specs.Recs.{RecView, sub_of, subs_of}
 use Rattle.room_lock.specs.InRoom.{AllPlaced}
 use Rattle.room_lock.specs.Recorded.{IsRecorded}
-use Rattle.room_lock.specs.Shared.{sub_of, subs_of}
 use Rattle.pcm_group.specs.Turn.{is_group_call}
 use Rattle.room_lock.proofs.RecLemmas.{found, get_other, get_set, no_rec, some_one}
 use Rattle.room_lock.proofs.SharedLemmas.{member_at}

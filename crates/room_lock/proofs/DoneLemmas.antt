@@ -3,6 +3,7 @@ use Rattle.std.proofs.Common.{◌≡◌, ◌≤◌, ◌<◌, ℕ, Bool, true, na
 use Rattle.std.specs.Prelude.{◌&&◌}
 use Rattle.std.proofs.lemmas.Bool.Decides.{nat_tests}
 use Rattle.std.proofs.lemmas.List.{length-take-le, take_all}
+use Rattle.std.proofs.Math.Seq.{take-append_seam}
 use Rattle.std.specs.declared.option.Option.{Option}
 use Rattle.std.specs.declared.option.Option.TheVariants.{None}
 use mathlib.Core.List.{IsPrefix}
@@ -15,9 +16,11 @@ use Rattle.pcm_base.specs.model.Acts.{subs}
 use Rattle.pcm_base.specs.model.Frame.{bytes_of}
 use Rattle.pcm_base.specs.model.Group.{GroupStep, stream_of}
 use Rattle.pcm_base.specs.model.Program.{Answer}
-use Rattle.pcm_base.specs.model.Replay.{Distinct, IsLent, parts_of, reading_length}
+use Rattle.pcm_base.specs.model.Replay.{Distinct, IsLent, is_member, parts_of, reading_length}
 use Rattle.pcm_base.specs.model.Sleep.{mask_of}
 use Rattle.pcm_base.specs.model.Stream.{Member, Stream, shown}
+use Rattle.pcm_group.specs.Turn.{is_group_call}
+use Rattle.pcm_laws.specs.Steps.{MarksLeaveStreams, RunsDecompose}
 use Rattle.pcm_stream.specs.Members.{numbers_of}
 use Rattle.pcm_stream.specs.MembersStand.{AllStandFor}
 use Rattle.floor_rule.specs.Lists.{longest}
@@ -28,23 +31,25 @@ use Rattle.floor_rule.specs.declared.rule.Marked.{Marked}
 use Rattle.floor_rule.specs.declared.rule.PassKnows.{PassKnows}
 use Rattle.room_book.specs.Laws.{LogOfMember, own_entry, step_of}
 use Rattle.room_book.specs.Logs.{PlaysLog, Replayed, client_of, nothing}
-use Rattle.room_book.specs.Rooms.{LogFits, acts_in, fresh_streams, grown, joints_now, log_of, start}
+use Rattle.room_book.specs.Rooms.{LogFits, acts_in, fresh_streams, grown, joints_now, joints_of, log_of, start}
 use Rattle.room_book.specs.declared.book.BookEntry.{BookEntry}
 use Rattle.room_book.specs.declared.book.BookEntry.TheVariants.{Act}
 use Rattle.room_parts.specs.Passes.{PassView, asleep_on}
-use Rattle.room_parts.specs.Recs.{RecView}
+use Rattle.room_parts.specs.Recs.{RecView, sub_of, subs_of}
 use Rattle.room_lock.specs.declared.recording.Receipt.{Receipt}
 use Rattle.room_lock.specs.Answers.{front, lent_of, log_in, logs_after, turn_of}
 use Rattle.room_lock.specs.Between.{marks_by}
+use Rattle.room_lock.specs.Handed.{IsHanded}
 use Rattle.room_lock.specs.InRoom.{FitsIn, RoomView}
 use Rattle.room_lock.specs.Joints.{joints_at}
 use Rattle.room_lock.specs.Known.{Knows, told_log}
 use Rattle.room_lock.specs.Parts.{AreLeft, EntryHasMoved}
 use Rattle.room_lock.specs.Recorded.{IsRecorded, called, own_of}
 use Rattle.room_lock.specs.Shaped.{IsLeft}
-use Rattle.room_lock.specs.Shared.{sub_of, subs_of}
 use Rattle.room_lock.specs.Turned.{HasTurned}
 use Rattle.room_lock.specs.Turning.{bytes_in, logs_of}
+use Rattle.room_lock.proofs.AfterTurn.{no_link, none_due}
+use Rattle.room_lock.proofs.HandedLemmas.{now_at, own_step, then_at}
 use Rattle.room_lock.proofs.HandedWalk.{step_hands, step_sizes}
 use Rattle.room_lock.proofs.Making.{place_in, task_fits}
 use Rattle.room_lock.proofs.MemberLemmas.{numbers_are}
@@ -185,6 +190,7 @@ module _ (cs : List (CardModel × Dir)) (long_max : ℕ) (e : Event) (io now : L
         receipts = cb.receipts ∙ ap (λ (z : ℕ × ℕ). p.knows.receipts ++ (z.0, z.1) ∷ []) (λ i. (sym sub_is i, sym r.1 i));
         plays = (end, subst (λ (z : SubId × List Marked). PlaysLog z.0 (start origin z.0) z.1 end) (λ i. (sym (r.0 ∙ own_is) i, (new_log ∙ sym told) i)) fit);
         onward = subst (λ (n : ℕ). IsPrefix (longest n p.knows.held.logs) (longest n q.knows.held.logs)) (sym sub_is) cb.onward;
+        held = cb.held;
         has = record {
           entry = entry;
           at = there;
@@ -208,6 +214,40 @@ module _ (cs : List (CardModel × Dir)) (long_max : ℕ) (e : Event) (io now : L
       ap (λ (n : ℕ). longest n q.knows.held.logs) sub_is ∙ cb.list ∙ sym new_log ∙ ap (λ (ks : List SubId). log_of e.sub ks (logs_of w.recs)) (sym fits.recs_are)
 
   -- ---- bytes
+
+  -- the own entry plays from the log before, its event being lent the front of the bytes
+  pub handed_turned : RunsDecompose → MarksLeaveStreams → LogOfMember → is_group_call e.call ≡ true → IsHanded cs long_max e.sub (told_log receipt q.knows) receipt.index io
+  handed_turned runs marks law is_call =
+      let origin : SubId → Stream = fresh_streams cs long_max in
+      let d : GroupStep = step_of e lent xs in
+      let o : Option ℕ = reading_length e.call (client_of e.client) (stream_of e.sub xs) in
+      let got : List Joint = joints_now e.sub v.number v.book in
+      let joints : List Joint = joints_at did.place v.number (acts_in v.book) d.acts in
+      let joints_is : joints ≡ joints_of e.sub v.number (acts_in v.book) (subs xs) d.acts = joints_are (subs xs) did.place v.number (acts_in v.book) e.sub d.acts room.fits.fits.apart own_number in
+      let cb = recorded.first.called_by in
+      let r = did.turned.stepped.receipt_is own own_at in
+      let entry : Marked = called p.knows (length io) (own_of d.members e (bytes_in e lent xs) joints d.answer.reply) (stream_of e.sub d.members).state (shown (stream_of e.sub d.members) (stream_of e.sub d.members).at.hw) in
+      let told : told_log receipt q.knows ≡ own.knows.log ++ entry ∷ [] = ap (λ (k : SubId). longest k.0 q.knows.held.logs) r.0 ∙ cb.list ∙ recorded.first.joined.log in
+      let log_is : take receipt.index (told_log receipt q.knows) ≡ log_of e.sub (subs xs) (logs_of v.recs) =
+      ap (λ (z : ℕ × List Marked). take z.0 z.1) (λ i. (r.1 i, told i)) ∙ take-append_seam own.knows.log (entry ∷ []) ∙ own_log ∙ ap (λ (ls : List (List Marked)). log_of e.sub (subs xs) ls) ready_logs in
+      let member : is_member e.sub (subs xs) ≡ true = among (subs xs) did.place e.sub own_number in
+      let fit : LogFits origin v.number v.book e.sub (log_of e.sub (subs xs) (logs_of v.recs)) (stream_of e.sub xs) = law origin v.number xs (logs_of v.recs) v.book e.sub room.fits.fits member in
+      let lent_is : IsLent o (length io) (length lent) = subst (λ (n : ℕ). IsLent o (length io) n) (sym lent_size) did.lent_is in
+      let step = own_step runs marks v.number (length io) e lent xs room.fits.fits.apart member room.fits.size (no_link e.call is_call) lent_is (acts_in v.book) joints joints_is got (none_due e.call d.answer.reply is_call) in
+      record {
+        event = e;
+        bytes = bytes_in e lent xs;
+        joints = joints;
+        reply = d.answer.reply;
+        state = (stream_of e.sub d.members).state;
+        mark = mark_by e lent (length io) xs p.knows;
+        at = ap (λ (z : List Marked × ℕ). slice_get z.0 z.1) (λ i. (told i, r.1 i)) ∙ get_last own.knows.log entry;
+        before = now_at e xs v.number got;
+        after = then_at e lent xs v.number (got ++ joints);
+        plays = subst (λ (l : List Marked). PlaysLog e.sub (start origin e.sub) l (now_at e xs v.number got)) (sym log_is) fit;
+        step = step.0;
+        lent = step.1 ∙ lent_same;
+      }
 
   pub left_turned : length now ≡ length io → AreLeft e io now xs
   left_turned size =

@@ -26,13 +26,12 @@ use Rattle.room_book.specs.Logs.{answered, is_ok, link_reply}
 use Rattle.room_book.specs.Rooms.{IsOwnOrNone, LogFits, RightSize}
 use Rattle.room_book.specs.declared.book.BookEntry.{BookEntry}
 use Rattle.room_book.specs.declared.book.BookEntry.TheVariants.{In}
-use Rattle.room_parts.specs.Recs.{RecView}
+use Rattle.room_parts.specs.Recs.{RecView, sub_of}
 use Rattle.room_parts.specs.declared.calling.Linked.{Linked}
 use Rattle.room_lock.specs.declared.recording.Receipt.{Receipt}
 use Rattle.room_lock.specs.InGroup.{IsPageIn}
 use Rattle.room_lock.specs.InRoom.{FitsIn}
 use Rattle.room_lock.specs.Linked.{IsToldAt}
-use Rattle.room_lock.specs.Shared.{sub_of}
 use Rattle.room_lock.proofs.LinkLemmas.{LinkOn, Standing, asleep_wait, come_in, none_due_in_group, room_fits, standing_of, subs_more, wake_standing}
 use Rattle.room_lock.proofs.MeetLemmas.{Leaves, moves_on, only_stream}
 use Rattle.room_lock.proofs.Records.{number_at}

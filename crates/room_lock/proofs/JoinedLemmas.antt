@@ -24,7 +24,7 @@ use Rattle.room_book.specs.declared.book.BookEntry.{BookEntry}
 use Rattle.room_book.specs.declared.book.BookEntry.TheVariants.{In, Out}
 use Rattle.room_parts.specs.Passes.{PassView}
 use Rattle.room_parts.specs.Links.{link_event}
-use Rattle.room_parts.specs.Recs.{RecView}
+use Rattle.room_parts.specs.Recs.{RecView, sub_of, subs_of}
 use Rattle.room_parts.specs.declared.calling.Linked.{Linked}
 use Rattle.room_lock.specs.declared.recording.Receipt.{Receipt}
 use Rattle.room_lock.specs.Answers.{log_in}
@@ -34,7 +34,6 @@ use Rattle.room_lock.specs.Joining.{HasJoined, IsJoining, StayApart, logs_linked
 use Rattle.room_lock.specs.Known.{Knows}
 use Rattle.room_lock.specs.Linked.{HasLinked, HasMoved, IsToldAt, link_by, link_marked, link_of, moved_to}
 use Rattle.room_lock.specs.Met.{move_of, with_link, with_move}
-use Rattle.room_lock.specs.Shared.{sub_of, subs_of}
 use Rattle.room_lock.specs.Turning.{logs_of}
 use Rattle.room_lock.proofs.JoinLemmas.{join_fits, linked_alone}
 use Rattle.room_lock.proofs.LinkLemmas.{LinkOn, Standing, nobody_left, none_due, room_fits, standing_of}

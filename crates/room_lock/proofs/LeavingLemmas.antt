@@ -36,7 +36,7 @@ use Rattle.room_book.specs.Rooms.{BookFits, IsOwnOrNone, RightSize, fresh_stream
 use Rattle.room_book.specs.declared.book.BookEntry.{BookEntry}
 use Rattle.room_book.specs.declared.book.BookEntry.TheVariants.{In, Out}
 use Rattle.room_parts.specs.Passes.{PassView}
-use Rattle.room_parts.specs.Recs.{RecView}
+use Rattle.room_parts.specs.Recs.{RecView, sub_of, subs_of}
 use Rattle.room_lock.specs.declared.recording.Receipt.{Receipt}
 use Rattle.room_lock.specs.declared.unlinking.Told.{Told}
 use Rattle.room_lock.specs.Answers.{log_in}
@@ -49,7 +49,6 @@ use Rattle.room_lock.specs.Linked.{HasMoved, moved_to}
 use Rattle.room_lock.specs.Met.{move_of}
 use Rattle.room_lock.specs.Ready.{knows_of}
 use Rattle.room_lock.specs.Recorded.{called}
-use Rattle.room_lock.specs.Shared.{sub_of, subs_of}
 use Rattle.room_lock.specs.Staying.{IsUnlinkTold, unlink_by, unlink_marked, unlink_reply}
 use Rattle.room_lock.specs.Turning.{logs_of}
 use Rattle.room_lock.proofs.KnownLemmas.{Knows as RoomKnows, log_in_known, none_known}

@@ -17,6 +17,7 @@ pub mod MakeLemmas
 pub mod TellLemmas
 pub mod Making
 pub mod TurnLemmas
+pub mod HandedLemmas
 pub mod DoneLemmas
 pub mod RoomLemmas
 pub mod NewLemmas
@@ -36,3 +37,4 @@ pub mod LeavingLemmas
 pub mod PartingLemmas
 pub mod PairLemmas
 pub mod WithinLemmas
+pub mod UnlinkReplies

@@ -22,14 +22,13 @@ use Rattle.room_book.specs.Logs.{MayMove, PlaysLog, Replayed, due_link, is_ok, l
 use Rattle.room_book.specs.Rooms.{BookFits, LogFits, RightSize, acts_in, joints_now, log_of, start, with_log, without_log}
 use Rattle.room_book.specs.declared.book.BookEntry.{BookEntry}
 use Rattle.room_book.specs.declared.book.BookEntry.TheVariants.{In, Out, Act}
-use Rattle.room_parts.specs.Recs.{RecView}
+use Rattle.room_parts.specs.Recs.{RecView, sub_of, subs_of}
 use Rattle.room_parts.specs.declared.calling.Linked.{Linked}
 use Rattle.room_lock.specs.declared.recording.Receipt.{Receipt}
 use Rattle.room_lock.specs.InGroup.{IsPageIn}
 use Rattle.room_lock.specs.InRoom.{AllPlaced, FitsIn}
 use Rattle.room_lock.specs.Joined.{IsJoined}
 use Rattle.room_lock.specs.Linked.{HasMoved, link_marked, moved_to}
-use Rattle.room_lock.specs.Shared.{sub_of, subs_of}
 use Rattle.room_lock.specs.Turning.{logs_of}
 use Rattle.room_lock.proofs.NewLemmas.{none_right}
 use Rattle.room_lock.proofs.RecLemmas.{get_other, get_set, some_one}

@@ -29,10 +29,9 @@ use Rattle.pcm_group.specs.Turn.{frames_moved}
 use Rattle.pcm_group.specs.declared.turn.Turn.{Turn}
 use Rattle.room_book.specs.Laws.{step_of}
 use Rattle.room_book.specs.Logs.{client_of}
-use Rattle.room_parts.specs.Recs.{RecView}
+use Rattle.room_parts.specs.Recs.{RecView, sub_of, subs_of}
 use Rattle.room_lock.specs.GroupStep.{IsGroupStep}
 use Rattle.room_lock.specs.Shaped.{HasShape}
-use Rattle.room_lock.specs.Shared.{sub_of, subs_of}
 use Rattle.room_lock.specs.Told.{is_movement, is_transfer, told_bytes}
 use Rattle.room_lock.specs.Turning.{bytes_in}
 use Rattle.room_lock.proofs.HandedWalk.{step_hands, step_sizes}

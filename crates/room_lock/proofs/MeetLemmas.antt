@@ -18,14 +18,13 @@ use Rattle.room_book.specs.Logs.{Due, MayMove, PlaysLog, Replayed, due_link, is_
 use Rattle.room_book.specs.Rooms.{IsOwnOrNone, LogFits, RightSize, joints_now, start}
 use Rattle.room_book.specs.declared.book.BookEntry.{BookEntry}
 use Rattle.room_book.specs.declared.book.BookEntry.TheVariants.{In}
-use Rattle.room_parts.specs.Recs.{RecView}
+use Rattle.room_parts.specs.Recs.{RecView, sub_of}
 use Rattle.room_parts.specs.declared.calling.Linked.{Linked}
 use Rattle.room_lock.specs.declared.recording.Receipt.{Receipt}
 use Rattle.room_lock.specs.InGroup.{IsPageIn}
 use Rattle.room_lock.specs.InRoom.{FitsIn}
 use Rattle.room_lock.specs.Joined.{IsJoined}
 use Rattle.room_lock.specs.Linked.{HasMoved, link_marked}
-use Rattle.room_lock.specs.Shared.{sub_of}
 use Rattle.room_lock.proofs.LinkLemmas.{LinkOn, Standing, asleep_wait, come_in, link_played, link_stays, none_due, room_fits, standing_of}
 
 -- the link was refused: the room of one is as it was, but for the entry

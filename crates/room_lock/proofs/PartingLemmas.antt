@@ -26,7 +26,7 @@ use Rattle.room_book.specs.Rooms.{LogFits, fresh_streams, joints_now}
 use Rattle.room_book.specs.declared.book.BookEntry.{BookEntry}
 use Rattle.room_book.specs.declared.book.BookEntry.TheVariants.{In, Out}
 use Rattle.room_parts.specs.Passes.{PassView}
-use Rattle.room_parts.specs.Recs.{RecView}
+use Rattle.room_parts.specs.Recs.{RecView, sub_of, subs_of}
 use Rattle.room_lock.specs.declared.recording.Receipt.{Receipt}
 use Rattle.room_lock.specs.declared.unlinking.Told.{Told}
 use Rattle.room_lock.specs.Answers.{log_in}
@@ -36,7 +36,6 @@ use Rattle.room_lock.specs.Leaving.{woken_apart}
 use Rattle.room_lock.specs.Linked.{HasMoved, moved_to}
 use Rattle.room_lock.specs.Met.{move_of}
 use Rattle.room_lock.specs.Parting.{HaveParted, IsParting, StayLinked, at_home}
-use Rattle.room_lock.specs.Shared.{sub_of, subs_of}
 use Rattle.room_lock.specs.Turning.{logs_of}
 use Rattle.room_lock.specs.Staying.{unlink_by, unlink_marked, unlink_reply}
 use Rattle.room_lock.proofs.KnownLemmas.{Knows as RoomKnows, log_in_known}

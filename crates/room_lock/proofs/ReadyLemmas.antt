@@ -11,9 +11,8 @@ use Rattle.room_lock.specs.Turning.{logs_of}
 use Rattle.std.specs.Prelude.{◌||◌}
 use Rattle.pcm_base.specs.declared.ids.SubId.{SubId}
 use Rattle.pcm_base.specs.model.Replay.{is_member}
-use Rattle.room_lock.specs.Shared.{sub_of, subs_of}
 use Rattle.floor_rule.specs.declared.rule.RecKnows.{RecKnows}
-use Rattle.room_parts.specs.Recs.{RecView}
+use Rattle.room_parts.specs.Recs.{RecView, sub_of, subs_of}
 use Rattle.room_lock.specs.Ready.{SpareTo, knows_of}
 use Rattle.room_lock.proofs.RecLemmas.{get_other, get_set, some_one}
 

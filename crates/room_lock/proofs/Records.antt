@@ -24,11 +24,11 @@ use Rattle.room_book.specs.Logs.{client_of}
 use Rattle.room_book.specs.Rooms.{RoomFits, acts_in, added, grown, joint_of, joints_of, log_of, shared_entries}
 use Rattle.room_book.specs.declared.book.BookEntry.TheVariants.{Act}
 use Rattle.room_parts.specs.Passes.{PassView}
-use Rattle.room_parts.specs.Recs.{RecView}
+use Rattle.room_parts.specs.Recs.{RecView, sub_of, subs_of}
 use Rattle.room_lock.specs.Between.{EventActsFollow, MarksShow, marks_by, state_then}
 use Rattle.room_lock.specs.Joints.{AllVoted, AreVotes, FewVoted, joint_at, joints_at, shared_at, state_after}
 use Rattle.room_lock.specs.Recorded.{IsRecorded, called, own_of}
-use Rattle.room_lock.specs.Shared.{shared_by, sub_of, subs_of}
+use Rattle.room_lock.specs.Shared.{shared_by}
 use Rattle.room_lock.specs.Turning.{RecordsFit, bytes_in, logs_of}
 use Rattle.room_lock.proofs.RecLemmas.{found, get_other, get_set, no_rec, some_one}
 

@@ -5,9 +5,8 @@ use Rattle.std.proofs.lemmas.Bool.Decides.{nat_tests}
 use Rattle.std.proofs.lemmas.Map.Steps.{length-le_from_distinct_below}
 use Rattle.pcm_base.specs.declared.ids.SubId.{SubId}
 use Rattle.pcm_base.specs.model.Replay.{Distinct, is_member}
-use Rattle.room_parts.specs.Recs.{RecView}
+use Rattle.room_parts.specs.Recs.{RecView, subs_of}
 use Rattle.room_lock.specs.InRoom.{AllPlaced}
-use Rattle.room_lock.specs.Shared.{subs_of}
 use Rattle.room_lock.proofs.Records.{length_map}
 
 others_differ : (j : ℕ) (rs : List RecView) → is_member (record { 0 = j }) (subs_of rs) ≡ false → AllByRecursion (λ (y : ℕ). eqb j y ≡ false) (map (λ (r : RecView). r.knows.sub) rs)

@@ -5,9 +5,9 @@ use Rattle.std.proofs.lemmas.Bool.Decides.{nat_tests}
 use Rattle.pcm_base.specs.declared.ids.SubId.{SubId}
 use Rattle.pcm_base.specs.model.Replay.{is_member}
 use Rattle.floor_rule.specs.declared.rule.Marked.{Marked}
-use Rattle.room_parts.specs.Recs.{RecView}
+use Rattle.room_parts.specs.Recs.{RecView, sub_of, subs_of}
 use Rattle.room_lock.specs.Joined.{Gains, IsJoined}
-use Rattle.room_lock.specs.Shared.{SharedTo, Untouched, sub_of, subs_of}
+use Rattle.room_lock.specs.Shared.{SharedTo, Untouched}
 use Rattle.room_lock.proofs.RecLemmas.{get_other, get_set, some_one}
 
 pub member_at : (rs : List RecView) (i : ℕ) (r : RecView) → slice_get rs i ≡ Some r → is_member (sub_of r) (subs_of rs) ≡ true

@@ -39,7 +39,7 @@ use Rattle.room_book.specs.Rooms.{LogFits, fresh_streams, joints_now, log_of, st
 use Rattle.room_book.specs.declared.book.BookEntry.{BookEntry}
 use Rattle.room_book.specs.declared.book.BookEntry.TheVariants.{In, Out}
 use Rattle.room_parts.specs.Passes.{PassView, asleep_on}
-use Rattle.room_parts.specs.Recs.{RecView}
+use Rattle.room_parts.specs.Recs.{RecView, sub_of, subs_of}
 use Rattle.room_parts.specs.declared.calling.Linked.{Linked}
 use Rattle.room_lock.specs.declared.recording.Receipt.{Receipt}
 use Rattle.room_lock.specs.Answers.{log_in}
@@ -48,7 +48,6 @@ use Rattle.room_lock.specs.InRoom.{FitsIn, IsIn, RoomView}
 use Rattle.room_lock.specs.Known.{Knows, told_log}
 use Rattle.room_lock.specs.Linked.{HasMoved, IsLinkRecorded, link_by, link_marked, link_of, moved_to}
 use Rattle.room_lock.specs.Met.{HaveMet, IsMeeting, StayAlone, move_of, with_link, with_move}
-use Rattle.room_lock.specs.Shared.{sub_of, subs_of}
 use Rattle.room_lock.specs.Turning.{logs_of}
 use Rattle.room_lock.proofs.DoneLemmas.{both_same}
 use Rattle.room_lock.proofs.LinkLemmas.{LinkOn, link_played, nobody_left, standing_of}
@@ -316,6 +315,7 @@ module _ (cs : List (CardModel × Dir)) (long_max s1 s2 : ℕ) (xs ys : List Mem
         receipts = cb.receipts ∙ ap (λ (z : ℕ × ℕ). p.knows.receipts ++ (z.0, z.1) ∷ []) (λ i. (sym sub0 i, sym index i));
         plays = (end, subst (λ (z : SubId × List Marked). PlaysLog z.0 (start origin z.0) z.1 end) (λ i. ((t.here.sub ∙ sym sub) i, log_is i)) played);
         onward = subst (λ (n : ℕ). IsPrefix (longest n p.knows.held.logs) (longest n p'.knows.held.logs)) (sym sub0) cb.onward;
+        held = cb.held;
         has = record {
           entry = link_marked link one.state one.hw p.knows;
           at = ap (λ (z : List Marked × ℕ). slice_get z.0 z.1) (λ i. ((told ∙ t.recorded.joined.log) i, index i)) ∙ get_last r.knows.log (link_marked link one.state one.hw p.knows);

@@ -21,7 +21,7 @@ use Rattle.room_book.specs.Rooms.{LogFits, fresh_streams, joints_now, log_of, st
 use Rattle.room_book.specs.declared.book.BookEntry.{BookEntry}
 use Rattle.room_parts.specs.Links.{link_event}
 use Rattle.room_parts.specs.Passes.{PassView, asleep_on}
-use Rattle.room_parts.specs.Recs.{RecView}
+use Rattle.room_parts.specs.Recs.{RecView, sub_of, subs_of}
 use Rattle.room_parts.specs.declared.calling.Linked.{Linked}
 use Rattle.room_lock.specs.declared.recording.Receipt.{Receipt}
 use Rattle.room_lock.specs.Answers.{log_in}
@@ -29,7 +29,6 @@ use Rattle.room_lock.specs.Joining.{logs_linked}
 use Rattle.room_lock.specs.Known.{Knows, told_log}
 use Rattle.room_lock.specs.Linked.{HasLinked, IsToldAt, link_marked}
 use Rattle.room_lock.specs.Met.{with_link}
-use Rattle.room_lock.specs.Shared.{sub_of, subs_of}
 use Rattle.room_lock.specs.Turning.{logs_of}
 use Rattle.room_lock.proofs.DoneLemmas.{both_same}
 use Rattle.room_lock.proofs.LinkLemmas.{LinkOn, Standing, link_played, link_stays, map_set_place, with_log_at}
@@ -108,6 +107,7 @@ told_known follow of_member cs long_max serial number book i k l page xs rs now 
         subst (λ (z : SubId × List Marked). PlaysLog z.0 (start origin z.0) z.1 (record { stream = stream_of k xs; room = number; since = joints_now k number book; due = due_link l.reply number })) (λ m. (sym (did.1 ∙ first) m, sym told m)) played,
       );
       onward = subst (λ (n : ℕ). IsPrefix (longest n p.knows.held.logs) (longest n q.knows.held.logs)) (sym sub0) cb.onward;
+      held = cb.held;
       has = record {
         entry = link_marked l page.state page.hw p.knows;
         at = ap (λ (z : List Marked × ℕ). slice_get z.0 z.1) (λ m. ((told ∙ t.joined.log) m, did.2 m)) ∙ get_last t.before.knows.log (link_marked l page.state page.hw p.knows);

@@ -7,7 +7,7 @@ use Rattle.pcm_base.specs.model.Stream.{Member, Stream}
 use Rattle.floor_rule.specs.declared.rule.Marked.{Marked}
 use Rattle.room_book.specs.Rooms.{RoomFits}
 use Rattle.room_book.specs.declared.book.BookEntry.{BookEntry}
-use Rattle.room_parts.specs.Recs.{RecView}
+use Rattle.room_parts.specs.Recs.{RecView, sub_of, subs_of}
 use Rattle.room_lock.specs.declared.answer.Answer.{Answer}
 use Rattle.room_lock.specs.declared.answer.Answer.TheVariants.{Done, LogFull, Memory}
 use Rattle.room_lock.specs.declared.recording.Receipt.{Receipt}
@@ -15,7 +15,6 @@ use Rattle.room_lock.specs.Answers.{OnDone, OnFull, OnMemory}
 use Rattle.room_lock.specs.InRoom.{FitsIn}
 use Rattle.room_lock.specs.Ready.{IsFull, ShortTo, knows_of}
 use Rattle.room_lock.specs.Refused.{places_of}
-use Rattle.room_lock.specs.Shared.{sub_of, subs_of}
 use Rattle.room_lock.specs.Turning.{logs_of}
 use Rattle.room_lock.proofs.RecLemmas.{found, no_rec, some_one}
 use Rattle.room_lock.proofs.Records.{get_map, length_map}

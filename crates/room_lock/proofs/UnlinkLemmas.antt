@@ -26,12 +26,11 @@ use Rattle.room_book.specs.Rooms.{LogFits, fresh_streams, joints_now, start}
 use Rattle.room_book.specs.declared.book.BookEntry.{BookEntry}
 use Rattle.floor_rule.specs.declared.rule.Marked.{Marked}
 use Rattle.room_parts.specs.Passes.{PassView}
-use Rattle.room_parts.specs.Recs.{RecView}
+use Rattle.room_parts.specs.Recs.{RecView, sub_of, subs_of}
 use Rattle.room_lock.specs.declared.recording.Receipt.{Receipt}
 use Rattle.room_lock.specs.Answers.{log_in}
 use Rattle.room_lock.specs.Known.{Knows, told_log}
 use Rattle.room_lock.specs.Recorded.{called}
-use Rattle.room_lock.specs.Shared.{sub_of, subs_of}
 use Rattle.room_lock.specs.Staying.{IsUnlinkTold, unlink_by, unlink_marked, unlink_reply}
 use Rattle.room_lock.proofs.DoneLemmas.{both_same}
 use Rattle.room_lock.proofs.LinkLemmas.{Standing, log_before, log_stays}
@@ -127,6 +126,7 @@ unlink_known follow of_member cs long_max serial number book i c k r page xs rs 
             (unlink_told i c k r page xs rs now p q receipt t follow of_member origin (length cs) serial number book stand is),
       );
       onward = subst (λ (n : ℕ). IsPrefix (longest n p.knows.held.logs) (longest n q.knows.held.logs)) (sym sub0) cb.onward;
+      held = cb.held;
       has = record {
         entry = called p.knows 0 (entry.Own (unlink_by c k) [] [] r page.state) page.state page.hw;
         at = ap (λ (z : List Marked × ℕ). slice_get z.0 z.1) (λ m. ((told ∙ t.recorded.joined.log) m, t.receipt_is.1 m)) ∙ get_last t.before.knows.log (called p.knows 0 (entry.Own (unlink_by c k) [] [] r page.state) page.state page.hw);

@@ -25,7 +25,7 @@ use Rattle.room_book.specs.Logs.{is_ok}
 use Rattle.room_book.specs.Rooms.{RightSize, fresh_streams, with_log}
 use Rattle.room_parts.specs.Links.{link_entry, link_event}
 use Rattle.room_parts.specs.Passes.{PassView}
-use Rattle.room_parts.specs.Recs.{RecView}
+use Rattle.room_parts.specs.Recs.{RecView, sub_of, subs_of}
 use Rattle.room_parts.specs.declared.calling.Linked.{Linked}
 use Rattle.room_lock.specs.declared.recording.Receipt.{Receipt}
 use Rattle.room_lock.specs.Answers.{log_in}
@@ -37,7 +37,6 @@ use Rattle.room_lock.specs.Known.{Knows, told_log}
 use Rattle.room_lock.specs.Linked.{HasLinked, IsLinkRecorded, IsToldAt, link_by, link_marked, link_of}
 use Rattle.room_lock.specs.Met.{with_link}
 use Rattle.room_lock.specs.Recorded.{HasCalled}
-use Rattle.room_lock.specs.Shared.{sub_of, subs_of}
 use Rattle.room_lock.specs.Turning.{logs_of}
 use Rattle.room_lock.specs.Within.{IsLinkWithin}
 use Rattle.room_lock.proofs.JoinLemmas.{linked_refused}

@@ -17,12 +17,11 @@ use Rattle.room_book.specs.Laws.{own_entry, step_of}
 use Rattle.room_book.specs.Logs.{client_of}
 use Rattle.room_book.specs.Rooms.{acts_in, grown, log_of}
 use Rattle.room_book.specs.declared.book.BookEntry.{BookEntry}
-use Rattle.room_parts.specs.Recs.{RecView}
+use Rattle.room_parts.specs.Recs.{RecView, subs_of}
 use Rattle.room_lock.specs.declared.answer.Answer.{Answer}
 use Rattle.room_lock.specs.declared.answer.Answer.TheVariants.{Done, LogFull, Memory}
 use Rattle.room_lock.specs.declared.recording.Receipt.{Receipt}
 use Rattle.room_lock.specs.Between.{marks_by}
-use Rattle.room_lock.specs.Shared.{subs_of}
 use Rattle.room_lock.specs.Turning.{logs_of}
 
 -- a fact of an answer of each kind

@@ -10,8 +10,7 @@ use Rattle.pcm_stream.specs.declared.members.Member.{Member}
 use Rattle.pcm_stream.specs.MembersStand.{AllStandFor}
 use Rattle.room_book.specs.Rooms.{RoomFits, acts_in}
 use Rattle.room_book.specs.declared.book.BookEntry.{BookEntry}
-use Rattle.room_parts.specs.Recs.{RecView}
-use Rattle.room_lock.specs.Shared.{subs_of}
+use Rattle.room_parts.specs.Recs.{RecView, subs_of}
 use Rattle.room_lock.specs.Turning.{logs_of}
 
 -- what a contract sees of a room: its number, the members of its group, the rec of each, and its book

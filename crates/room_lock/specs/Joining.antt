@@ -9,12 +9,11 @@ use Rattle.floor_rule.specs.declared.rule.Marked.{Marked}
 use Rattle.floor_rule.specs.declared.rule.PassKnows.{PassKnows}
 use Rattle.room_book.specs.Rooms.{with_log}
 use Rattle.room_book.specs.declared.book.BookEntry.TheVariants.{In, Out}
-use Rattle.room_parts.specs.Recs.{RecView}
+use Rattle.room_parts.specs.Recs.{RecView, subs_of}
 use Rattle.room_parts.specs.declared.calling.Linked.{Linked}
 use Rattle.room_lock.specs.Answers.{log_in}
 use Rattle.room_lock.specs.InRoom.{RoomView}
 use Rattle.room_lock.specs.Met.{ByReply, if_ok, with_link, with_move}
-use Rattle.room_lock.specs.Shared.{subs_of}
 use Rattle.room_lock.specs.Turning.{logs_of}
 
 -- the logs in these recs, that of k with the entry of a link at its end

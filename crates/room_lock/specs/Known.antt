@@ -9,6 +9,7 @@ use Rattle.pcm_base.specs.declared.reply.Reply.{Reply}
 use Rattle.pcm_base.specs.declared.state.Dir.{Dir}
 use Rattle.floor_rule.specs.Lists.{longest}
 use Rattle.floor_rule.specs.Marks.{count_of, is_call}
+use Rattle.floor_rule.specs.Steps.{HoldsMore}
 use Rattle.floor_rule.specs.declared.entry.Entry.{Entry}
 use Rattle.floor_rule.specs.declared.entry.Entry.TheVariants as entry
 use Rattle.floor_rule.specs.declared.rule.Marked.{Marked}
@@ -35,7 +36,7 @@ pub record HasEntry (e : Event) (count : ℕ) (reply : Reply) (receipt : Receipt
   pub call : is_call p.number (length p.calls) entry.mark ≡ true
   pub count_is : count_of entry.mark ≡ count
 
--- The call is the pass's next, with this receipt, and is in progress where it was answered Asleep. The pass's list of the log there plays, goes on from the one that it had, and has the call's entry at the receipt.
+-- The call is the pass's next, with this receipt, and is in progress where it was answered Asleep. The pass's list of the log there plays, goes on from the one that it had, and has the call's entry at the receipt; what stood in its lists stands there still.
 pub record Knows (cards : List (CardModel × Dir)) (long_max : ℕ) (e : Event) (count : ℕ) (reply : Reply) (receipt : Receipt) (p q : PassView) : Type 0 where
   pub same : (q.caller ≡ p.caller) × (q.knows.number ≡ p.knows.number) × (q.knows.reads ≡ p.knows.reads)
   pub busy : q.busy ≡ asleep_on e.sub reply
@@ -43,4 +44,5 @@ pub record Knows (cards : List (CardModel × Dir)) (long_max : ℕ) (e : Event) 
   pub receipts : q.knows.receipts ≡ p.knows.receipts ++ (receipt.sub.0, receipt.index) ∷ []
   pub plays : Plays cards long_max receipt.sub (told_log receipt q.knows)
   pub onward : IsPrefix (told_log receipt p.knows) (told_log receipt q.knows)
+  pub held : HoldsMore p.knows.held q.knows.held
   pub has : HasEntry e count reply receipt p.knows (told_log receipt q.knows)

@@ -12,11 +12,10 @@ use Rattle.floor_rule.specs.declared.rule.Marked.{Marked}
 use Rattle.floor_rule.specs.declared.rule.PassKnows.{PassKnows}
 use Rattle.room_book.specs.Rooms.{with_log, without_log}
 use Rattle.room_book.specs.declared.book.BookEntry.TheVariants.{In, Out}
-use Rattle.room_parts.specs.Recs.{RecView}
+use Rattle.room_parts.specs.Recs.{RecView, subs_of}
 use Rattle.room_lock.specs.Answers.{log_in}
 use Rattle.room_lock.specs.InRoom.{RoomView}
 use Rattle.room_lock.specs.Met.{ByReply, if_ok, move_of}
-use Rattle.room_lock.specs.Shared.{subs_of}
 use Rattle.room_lock.specs.Staying.{unlink_marked, unlink_reply}
 use Rattle.room_lock.specs.Turning.{logs_of}
 

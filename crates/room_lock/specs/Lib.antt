@@ -18,6 +18,7 @@ pub mod Refused
 pub mod Turned
 pub mod GroupStep
 pub mod Known
+pub mod Handed
 pub mod Parts
 pub mod Linked
 pub mod Met

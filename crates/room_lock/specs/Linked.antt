@@ -17,13 +17,12 @@ use Rattle.floor_rule.specs.declared.rule.PassKnows.{PassKnows}
 use Rattle.room_book.specs.Logs.{link_reply}
 use Rattle.room_parts.specs.Links.{link_entry, link_event}
 use Rattle.room_parts.specs.Passes.{PassView}
-use Rattle.room_parts.specs.Recs.{RecView}
+use Rattle.room_parts.specs.Recs.{RecView, sub_of}
 use Rattle.room_parts.specs.declared.calling.Linked.{Linked}
 use Rattle.room_lock.specs.declared.recording.Receipt.{Receipt}
 use Rattle.room_lock.specs.InGroup.{IsPageIn}
 use Rattle.room_lock.specs.Joined.{IsJoined}
 use Rattle.room_lock.specs.Recorded.{HasCalled}
-use Rattle.room_lock.specs.Shared.{sub_of}
 
 -- a link of j to the group of k, which finds them in these states, and what it answers
 abbrev pub link_of : ClientId → SubId → SubId → State → State → Bool → Linked

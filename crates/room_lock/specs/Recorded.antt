@@ -9,6 +9,7 @@ use Rattle.pcm_base.specs.declared.votes.Acted.{Acted}
 use Rattle.pcm_base.specs.model.Group.{stream_of}
 use Rattle.pcm_base.specs.model.Stream.{Member, shown}
 use Rattle.floor_rule.specs.Lists.{longest}
+use Rattle.floor_rule.specs.Steps.{HoldsMore}
 use Rattle.floor_rule.specs.declared.entry.Entry.{Entry}
 use Rattle.floor_rule.specs.declared.entry.Entry.TheVariants as entry
 use Rattle.floor_rule.specs.declared.entry.EntryMark.TheVariants as mark
@@ -16,16 +17,16 @@ use Rattle.floor_rule.specs.declared.entry.Joint.{Joint}
 use Rattle.floor_rule.specs.declared.rule.Marked.{Marked}
 use Rattle.floor_rule.specs.declared.rule.PassKnows.{PassKnows}
 use Rattle.room_parts.specs.Passes.{PassView, busy_after}
-use Rattle.room_parts.specs.Recs.{RecView}
+use Rattle.room_parts.specs.Recs.{RecView, sub_of}
 use Rattle.room_lock.specs.Joined.{HasRoom, IsJoined}
 use Rattle.room_lock.specs.Joints.{joints_at}
-use Rattle.room_lock.specs.Shared.{SharedTo, shared_by, sub_of}
+use Rattle.room_lock.specs.Shared.{SharedTo, shared_by}
 
 -- the entry of the next call of a pass
 abbrev pub called : PassKnows → ℕ → Entry → State → ℕ → Marked
 called p count e t h = record { entry = e; mark = mark.Called t h p.number (length p.calls) count }
 
--- The pass has made a call that is told by this entry, which the log of sub has gained at its end, after so many others: the call has its receipt there, the pass's list of the log is then the whole log, and goes on from the one before.
+-- The pass has made a call that is told by this entry, which the log of sub has gained at its end, after so many others: the call has its receipt there, the pass's list of the log is then the whole log, and goes on from the one before; what stood in its lists stands there still.
 pub record HasCalled (event : Event) (count : ℕ) (e : Entry) (sub : ℕ) (before log : List Marked) (p q : PassView) : Type 0 where
   pub number : q.knows.number ≡ p.knows.number
   pub caller : q.caller ≡ p.caller
@@ -35,6 +36,7 @@ pub record HasCalled (event : Event) (count : ℕ) (e : Entry) (sub : ℕ) (befo
   pub busy : q.busy ≡ busy_after e
   pub list : longest sub q.knows.held.logs ≡ log
   pub onward : IsPrefix (longest sub p.knows.held.logs) (longest sub q.knows.held.logs)
+  pub held : HoldsMore p.knows.held q.knows.held
 
 -- The rec r at a place has gained the entry of the pass's next call.
 pub record IsOwnRecorded (own : ℕ) (event : Event) (count : ℕ) (e : Entry) (t : State) (h : ℕ) (r : RecView) (old now : List RecView) (p q : PassView) : Type 0 where

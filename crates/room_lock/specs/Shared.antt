@@ -1,21 +1,14 @@
 -- What all recs of a room but one gain by an event of that one. This project's own.
-use Rattle.std.specs.Prelude.{◌≡◌, ◌≢◌, ℕ, ◌<◌, ◌≤◌, List, length, map, slice_get}
+use Rattle.std.specs.Prelude.{◌≡◌, ◌≢◌, ℕ, ◌<◌, ◌≤◌, List, length, slice_get}
 use Rattle.std.specs.declared.option.Option.TheVariants.{Some}
 use Rattle.pcm_base.specs.declared.ids.SubId.{SubId}
 use Rattle.pcm_base.specs.declared.votes.Acted.{Acted}
 use Rattle.pcm_base.specs.model.Group.{stream_of}
 use Rattle.pcm_base.specs.model.Stream.{Member, shown}
 use Rattle.floor_rule.specs.declared.rule.Marked.{Marked}
-use Rattle.room_parts.specs.Recs.{RecView}
+use Rattle.room_parts.specs.Recs.{RecView, sub_of}
 use Rattle.room_lock.specs.Joined.{HasRoom, IsJoined}
 use Rattle.room_lock.specs.Joints.{shared_at}
-
--- the substream of a rec
-abbrev pub sub_of : RecView → SubId
-sub_of r = record { 0 = r.knows.sub }
-
-abbrev pub subs_of : List RecView → List SubId
-subs_of rs = map sub_of rs
 
 -- what the rec at a place gains, where the members then stand for these
 abbrev pub shared_by : List Member → ℕ → ℕ → List Acted → SubId → ℕ → ℕ → RecView → List Marked

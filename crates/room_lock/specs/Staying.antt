@@ -1,6 +1,6 @@
 -- What a call that moves nobody leaves in its room: a link of a member to itself or to no card, and an unlink that is refused. This project's own.
 use Rattle.std.specs.Prelude.{◌≡◌, ℕ, not, nat_eq, nat_le, ◌&&◌, List, [], ◌∷◌, ◌++◌, length, slice_get, if◌then◌else◌}
-use Rattle.std.specs.declared.option.Option.TheVariants.{Some}
+use Rattle.std.specs.declared.option.Option.TheVariants.{Some, None}
 use Rattle.pcm_base.specs.declared.call.Call.TheVariants as call
 use Rattle.pcm_base.specs.declared.call.Event.{Event}
 use Rattle.pcm_base.specs.declared.ids.ClientId.{ClientId}
@@ -13,13 +13,14 @@ use Rattle.pcm_base.specs.declared.state.State.TheVariants as state
 use Rattle.pcm_base.specs.model.Group.{stream_of}
 use Rattle.pcm_base.specs.model.Stream.{Member, Stream, shown}
 use Rattle.pcm_base.specs.model.Words.{when, ◌then◌, is_closed}
+use Rattle.pcm_base.specs.model.World.{World, call_of, is_linked, state_in, step}
 use Rattle.floor_rule.specs.declared.entry.Entry.TheVariants as entry
 use Rattle.floor_rule.specs.declared.entry.EntryMark.TheVariants as mark
 use Rattle.floor_rule.specs.declared.rule.Marked.{Marked}
 use Rattle.floor_rule.specs.declared.rule.PassKnows.{PassKnows}
 use Rattle.room_book.specs.Logs.{answered}
 use Rattle.room_parts.specs.Passes.{PassView}
-use Rattle.room_parts.specs.Recs.{RecView}
+use Rattle.room_parts.specs.Recs.{RecView, sub_of}
 use Rattle.room_parts.specs.declared.calling.Linked.{Linked}
 use Rattle.room_lock.specs.declared.recording.Receipt.{Receipt}
 use Rattle.room_lock.specs.Answers.{log_in}
@@ -28,7 +29,6 @@ use Rattle.room_lock.specs.InRoom.{RoomView}
 use Rattle.room_lock.specs.Joining.{logs_linked}
 use Rattle.room_lock.specs.Linked.{link_of}
 use Rattle.room_lock.specs.Recorded.{IsOwnRecorded}
-use Rattle.room_lock.specs.Shared.{sub_of}
 use Rattle.room_lock.specs.Turning.{logs_of}
 
 -- a link of k, whose stream has this state in a room of this number, to itself, or to j, which is no card and so as one that is closed
@@ -50,6 +50,10 @@ unlink_by c k = record { client = Some c; sub = k; call = call.Unlink }
 -- what it answers, of a substream in this state in a room of this number
 abbrev pub unlink_reply : State → ℕ → Reply
 unlink_reply s number = answered (when (is_closed s) errno.Enxio then when (not (nat_le 16 number)) errno.Ealready)
+
+-- that is the world's reply, to a client with no call in progress, where its substream is linked exactly in a group's room
+abbrev pub UnlinkRepliesAgree : Type 0
+UnlinkRepliesAgree = (c : ClientId) (k : SubId) (io : List ℕ) (number : ℕ) (w : World) → call_of c w.calls ≡ None → is_linked k w ≡ nat_le 16 number → unlink_reply (state_in k w) number ≡ (step w (unlink_by c k) io).reply
 
 -- its entry, as the next call of a pass, where its substream has this stream
 abbrev pub unlink_marked : Event → Reply → Stream → PassKnows → Marked

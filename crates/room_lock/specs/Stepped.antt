@@ -14,11 +14,10 @@ use Rattle.room_book.specs.Logs.{client_of}
 use Rattle.room_book.specs.declared.book.BookEntry.{BookEntry}
 use Rattle.room_book.specs.declared.book.BookEntry.TheVariants.{Act}
 use Rattle.room_parts.specs.Passes.{PassView}
-use Rattle.room_parts.specs.Recs.{RecView}
+use Rattle.room_parts.specs.Recs.{RecView, sub_of}
 use Rattle.room_lock.specs.declared.recording.Receipt.{Receipt}
 use Rattle.room_lock.specs.Joined.{HoldsAt}
 use Rattle.room_lock.specs.Recorded.{IsRecorded}
-use Rattle.room_lock.specs.Shared.{sub_of}
 use Rattle.room_lock.specs.Turning.{bytes_in}
 
 -- The group has made this event, which was lent these bytes of so many, and moved these.

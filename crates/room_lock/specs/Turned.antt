@@ -14,13 +14,12 @@ use Rattle.room_book.specs.Laws.{step_of}
 use Rattle.room_book.specs.Logs.{client_of}
 use Rattle.room_book.specs.declared.book.BookEntry.{BookEntry}
 use Rattle.room_parts.specs.Passes.{PassView}
-use Rattle.room_parts.specs.Recs.{RecView}
+use Rattle.room_parts.specs.Recs.{RecView, sub_of}
 use Rattle.room_lock.specs.declared.recording.Receipt.{Receipt}
 use Rattle.room_book.specs.Rooms.{acts_in}
 use Rattle.room_lock.specs.InRoom.{RoomView}
 use Rattle.room_lock.specs.Joined.{HoldsAt}
 use Rattle.room_lock.specs.Ready.{knows_of}
-use Rattle.room_lock.specs.Shared.{sub_of}
 use Rattle.room_lock.specs.Shaped.{IsLeft}
 use Rattle.room_lock.specs.Stepped.{IsStepped}
 

@@ -16,9 +16,8 @@ use Rattle.room_book.specs.Laws.{step_of}
 use Rattle.room_book.specs.Logs.{client_of, due_own, nothing}
 use Rattle.room_book.specs.Rooms.{RoomFits, acts_in}
 use Rattle.room_parts.specs.Passes.{PassView}
-use Rattle.room_parts.specs.Recs.{RecView}
+use Rattle.room_parts.specs.Recs.{RecView, sub_of, subs_of}
 use Rattle.room_lock.specs.Recorded.{IsRecorded}
-use Rattle.room_lock.specs.Shared.{sub_of, subs_of}
 
 abbrev pub logs_of : List RecView → List (List Marked)
 logs_of rs = map (λ r. r.knows.log) rs

@@ -6,13 +6,12 @@ use Rattle.pcm_base.specs.model.Stream.{Member}
 use Rattle.floor_rule.specs.declared.rule.Marked.{Marked}
 use Rattle.floor_rule.specs.declared.rule.PassKnows.{PassKnows}
 use Rattle.room_book.specs.Rooms.{with_log}
-use Rattle.room_parts.specs.Recs.{RecView}
+use Rattle.room_parts.specs.Recs.{RecView, subs_of}
 use Rattle.room_parts.specs.declared.calling.Linked.{Linked}
 use Rattle.room_lock.specs.Answers.{log_in}
 use Rattle.room_lock.specs.InRoom.{RoomView}
 use Rattle.room_lock.specs.Joining.{logs_linked}
 use Rattle.room_lock.specs.Met.{with_link}
-use Rattle.room_lock.specs.Shared.{subs_of}
 use Rattle.room_lock.specs.Turning.{logs_of}
 
 -- the logs in these recs, those of the two that a link names with its entry at their ends

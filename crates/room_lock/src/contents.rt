@@ -22,7 +22,7 @@ ghost use Rattle.room_lock.specs.Plans.{IsPlan};
 ghost use Rattle.room_lock.specs.Ready.{IsFull, ShortTo, knows_of};
 ghost use Rattle.room_lock.specs.Refused.{IsRefused};
 ghost use Rattle.room_lock.specs.Recorded.{AllHaveRoom};
-ghost use Rattle.room_lock.specs.Shared.{sub_of, subs_of};
+ghost use Rattle.room_parts.specs.Recs.{sub_of, subs_of};
 ghost use Rattle.room_lock.specs.Stepped.{IsMade, IsStepped};
 ghost use Rattle.room_lock.specs.Turned.{HasTurned, IsTurned};
 

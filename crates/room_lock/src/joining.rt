@@ -13,7 +13,7 @@ ghost use Rattle.pcm_stream.specs.MembersStand.{AllStandFor};
 ghost use Rattle.room_book.specs.Rooms.{fresh_streams};
 ghost use Rattle.room_book.specs.declared.book.BookEntry.TheVariants.{In, Out};
 ghost use Rattle.room_parts.specs.Passes.{IsBy};
-ghost use Rattle.room_parts.specs.Recs.{RecView};
+ghost use Rattle.room_parts.specs.Recs.{RecView, sub_of, subs_of};
 ghost use Rattle.room_lock.specs.Answers.{OnDone, OnFull, OnMemory, log_in};
 ghost use Rattle.room_lock.specs.InRoom.{InRoom, IsIn};
 ghost use Rattle.room_lock.specs.Inside.{view_of};
@@ -25,7 +25,6 @@ ghost use Rattle.room_lock.specs.Met.{stay};
 ghost use Rattle.room_lock.specs.Ready.{knows_of};
 ghost use Rattle.room_lock.specs.Recorded.{AllHaveRoom};
 ghost use Rattle.room_lock.specs.Refused.{AreFull, AreRefused};
-ghost use Rattle.room_lock.specs.Shared.{sub_of, subs_of};
 
 use crate::answer::Answer;
 use crate::contents::{Contents, place_of};

@@ -1,6 +1,7 @@
-//! Laws over the acts of one event. Each function here is such a law: it does nothing, and its contract is the law.
+//! Laws over the acts of one event and the reply of an unlink. Each function here is such a law: it does nothing, and its contract is the law.
 
 ghost use Rattle.room_lock.specs.Between.{EventActsFollow, MarksShow};
+ghost use Rattle.room_lock.specs.Staying.{UnlinkRepliesAgree};
 ghost use Rattle.room_lock.specs.Turning.{RecordsFit};
 
 use pcm_laws::step;
@@ -23,3 +24,8 @@ pub fn records()
     step::steps();
     turns();
 }
+
+/// What an unlink replies.
+pub fn unlinks()
+    ensures { UnlinkRepliesAgree }
+{}

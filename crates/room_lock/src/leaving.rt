@@ -13,7 +13,7 @@ ghost use Rattle.pcm_stream.specs.MembersStand.{AllStandFor};
 ghost use Rattle.room_book.specs.Rooms.{fresh_streams};
 ghost use Rattle.room_book.specs.declared.book.BookEntry.TheVariants.{In, Out};
 ghost use Rattle.room_parts.specs.Passes.{IsBy};
-ghost use Rattle.room_parts.specs.Recs.{RecView};
+ghost use Rattle.room_parts.specs.Recs.{RecView, sub_of, subs_of};
 ghost use Rattle.room_lock.specs.Answers.{OnDone, OnFull, OnMemory, log_in};
 ghost use Rattle.room_lock.specs.InRoom.{InRoom, IsIn};
 ghost use Rattle.room_lock.specs.Inside.{view_of};
@@ -24,7 +24,6 @@ ghost use Rattle.room_lock.specs.Linked.{HasMoved};
 ghost use Rattle.room_lock.specs.Ready.{IsFull, knows_of};
 ghost use Rattle.room_lock.specs.Recorded.{AllHaveRoom};
 ghost use Rattle.room_lock.specs.Refused.{IsRefused};
-ghost use Rattle.room_lock.specs.Shared.{sub_of, subs_of};
 ghost use Rattle.room_lock.specs.Staying.{unlink_by};
 
 use crate::answer::Answer;

@@ -9,11 +9,10 @@ ghost use Rattle.pcm_group.specs.Inside.{members_in};
 ghost use Rattle.pcm_stream.specs.Members.{numbers_of};
 ghost use Rattle.pcm_stream.specs.MembersStand.{AllStandFor};
 ghost use Rattle.room_book.specs.declared.book.BookEntry.TheVariants.{In, Out};
-ghost use Rattle.room_parts.specs.Recs.{RecView};
+ghost use Rattle.room_parts.specs.Recs.{RecView, sub_of};
 ghost use Rattle.room_lock.specs.Joined.{HasRoom};
 ghost use Rattle.room_lock.specs.Linked.{HasMoved};
 ghost use Rattle.room_lock.specs.Ready.{knows_of};
-ghost use Rattle.room_lock.specs.Shared.{sub_of};
 
 use crate::contents::Contents;
 use crate::moving::checked;

@@ -13,11 +13,10 @@ ghost use Rattle.pcm_group.specs.Inside.{members_in};
 ghost use Rattle.pcm_stream.specs.Members.{all_differ, members_of, numbers_of};
 ghost use Rattle.pcm_stream.specs.MembersStand.{AllStandFor};
 ghost use Rattle.room_book.specs.declared.book.BookEntry.TheVariants.{In, Out};
-ghost use Rattle.room_parts.specs.Recs.{RecView};
+ghost use Rattle.room_parts.specs.Recs.{RecView, sub_of, subs_of};
 ghost use Rattle.room_lock.specs.Joined.{HasRoom, HoldsAt};
 ghost use Rattle.room_lock.specs.Linked.{HasMoved};
 ghost use Rattle.room_lock.specs.Ready.{SpareTo, knows_of};
-ghost use Rattle.room_lock.specs.Shared.{sub_of, subs_of};
 
 use crate::contents::Contents;
 use crate::ready::reserve_all;

@@ -6,11 +6,10 @@ ghost use Rattle.pcm_stream.specs.Members.{all_differ, members_of, numbers_of};
 ghost use Rattle.pcm_stream.specs.MembersStand.{AllStandFor};
 ghost use Rattle.room_book.specs.declared.book.BookEntry.TheVariants.{Act as Noted};
 ghost use Rattle.room_parts.specs.Passes.{IsAlone, IsBy};
-ghost use Rattle.room_parts.specs.Recs.{RecView};
+ghost use Rattle.room_parts.specs.Recs.{RecView, sub_of, subs_of};
 ghost use Rattle.room_lock.specs.Joined.{HasRoom, HoldsAt};
 ghost use Rattle.room_lock.specs.Joints.{AreVotes};
 ghost use Rattle.room_lock.specs.Recorded.{AllHaveRoom, IsOwnRecorded, IsRecorded};
-ghost use Rattle.room_lock.specs.Shared.{sub_of, subs_of};
 
 use crate::joints::joints;
 use crate::members::page_at;

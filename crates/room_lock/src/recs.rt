@@ -6,13 +6,13 @@ ghost use Rattle.floor_rule.specs.Steps.{told_by_rec};
 ghost use Rattle.floor_rule.specs.declared.entry.Entry.TheVariants.{Shared as SharedEntry};
 ghost use Rattle.floor_rule.specs.declared.entry.EntryMark.TheVariants.{Caused};
 ghost use Rattle.floor_rule.specs.declared.rule.Marked.{Marked};
-ghost use Rattle.room_parts.specs.Recs.{RecView};
+ghost use Rattle.room_parts.specs.Recs.{RecView, subs_of};
 ghost use Rattle.room_lock.specs.Joined.{Gains, HasOwn, HasRoom, HoldsAt};
 ghost use Rattle.room_lock.specs.Joints.{AllVoted, AreVotes, joints_at, shared_at};
 ghost use Rattle.pcm_base.specs.model.Stream.{Member as ModelMember};
 ghost use Rattle.pcm_stream.specs.Members.{all_differ, members_of, numbers_of};
 ghost use Rattle.pcm_stream.specs.MembersStand.{AllStandFor};
-ghost use Rattle.room_lock.specs.Shared.{OthersHaveRoom, SharedTo, shared_by, subs_of};
+ghost use Rattle.room_lock.specs.Shared.{OthersHaveRoom, SharedTo, shared_by};
 
 use crate::joints::{joint, state_at};
 use crate::members::page_at;

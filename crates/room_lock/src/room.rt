@@ -13,6 +13,7 @@ ghost use Rattle.room_book.specs.Rooms.{fresh_streams};
 ghost use Rattle.room_book.specs.declared.book.BookEntry.TheVariants.{Act, In};
 ghost use Rattle.room_parts.specs.Passes.{IsBy};
 ghost use Rattle.room_lock.specs.Answers.{OnDone, OnFull, OnMemory, log_in, logs_after, turn_of};
+ghost use Rattle.room_lock.specs.Handed.{IsHanded};
 ghost use Rattle.room_lock.specs.InRoom.{IsRoomOf};
 ghost use Rattle.room_lock.specs.Known.{Knows, told_log};
 ghost use Rattle.room_lock.specs.Parts.{AreLeft, EntryHasMoved};
@@ -26,6 +27,7 @@ use crate::new_rooms::{alone, empty};
 use card_emul::AnyCard;
 use floor_rule::SharedWords;
 use pcm_base::{Dir, Event, SubId};
+use pcm_laws::step::{marks, runs};
 use pcm_stream::Members;
 use room_book::laws::moves;
 use room_parts::{FloorName, Pass, Rec};
@@ -149,6 +151,7 @@ impl<N: FloorName> Room<N> {
         ensures receipt { OnDone result (λ reply receipt woken. (receipt.sub ≡ event.now.sub) × (receipt.index ≡ length (log_in event.now.sub self.old.recs))) }
         ensures pass { OnDone result (λ reply receipt woken. Knows N.cards N.long_max event.now (length io.old) reply receipt pass.old pass.new) }
         ensures told { OnDone result (λ reply receipt woken. told_log receipt pass.new.knows ≡ log_in event.now.sub self.new.recs) }
+        ensures handed { OnDone result (λ reply receipt woken. IsHanded N.cards N.long_max event.now.sub (told_log receipt pass.new.knows) receipt.index io.old) }
         ensures bytes { (xs : List ModelMember) → IsRoomOf (fresh_streams N.cards N.long_max) (length N.cards) self.old xs
             → OnDone result (λ reply receipt woken. AreLeft event.now io.old io.new xs) }
         ensures moved { (xs : List ModelMember) → IsRoomOf (fresh_streams N.cards N.long_max) (length N.cards) self.old xs
@@ -164,6 +167,8 @@ impl<N: FloorName> Room<N> {
         ensures numbers { numbers_of self.new.members ≡ numbers_of self.old.members }
     {
         moves();
+        runs();
+        marks();
         self.inside.turn(words, pass, event, io)
     }
 

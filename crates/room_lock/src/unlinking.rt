@@ -15,7 +15,7 @@ ghost use Rattle.room_lock.specs.Known.{Knows};
 ghost use Rattle.room_lock.specs.Ready.{IsFull, knows_of};
 ghost use Rattle.room_lock.specs.Recorded.{AllHaveRoom};
 ghost use Rattle.room_lock.specs.Refused.{IsRefused};
-ghost use Rattle.room_lock.specs.Shared.{sub_of, subs_of};
+ghost use Rattle.room_parts.specs.Recs.{sub_of, subs_of};
 ghost use Rattle.room_lock.specs.Staying.{IsUnlinkRefused, IsUnlinkTold, unlink_by, unlink_reply as reply_of};
 
 use crate::answer::Answer;

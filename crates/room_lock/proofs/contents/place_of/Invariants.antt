@@ -1,6 +1,6 @@
 use Rattle.std.proofs.Common.{◌≡◌, ◌-◌, ◌<◌, true, length, drop}
 use Rattle.pcm_base.specs.model.Replay.{is_member}
-use Rattle.room_lock.specs.Shared.{subs_of}
+use Rattle.room_parts.specs.Recs.{subs_of}
 use Rattle.room_lock.proofs.contents.place_of.Given as goal
 
 abbrev pub invariant-places : goal.invariant-places

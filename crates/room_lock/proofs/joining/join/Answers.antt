@@ -11,8 +11,7 @@ use Rattle.pcm_base.specs.model.Sleep.{mask_of, wake, woken}
 use Rattle.pcm_group.specs.Inside.{members_in}
 use Rattle.pcm_stream.specs.MembersStand.{AllStandFor}
 use Rattle.pcm_stream.specs.declared.members.Member.{Member}
-use Rattle.room_parts.specs.Recs.{RecView}
-use Rattle.room_lock.specs.Shared.{sub_of}
+use Rattle.room_parts.specs.Recs.{RecView, sub_of}
 use Rattle.room_lock.proofs.MaskLemmas.{mask_of-append}
 use Rattle.room_lock.proofs.RecLemmas.{found, no_rec}
 use Rattle.room_lock.proofs.Records.{length_map}

@@ -19,11 +19,10 @@ use Rattle.room_book.specs.Logs.{is_ok}
 use Rattle.room_book.specs.Rooms.{fresh_streams}
 use Rattle.room_book.specs.declared.book.BookEntry.{BookEntry}
 use Rattle.room_book.specs.declared.book.BookEntry.TheVariants.{In, Out}
-use Rattle.room_parts.specs.Recs.{RecView}
+use Rattle.room_parts.specs.Recs.{RecView, sub_of, subs_of}
 use Rattle.room_lock.specs.InRoom.{FitsIn, InRoom, IsIn, RoomView}
 use Rattle.room_lock.specs.Inside.{view_of}
 use Rattle.room_lock.specs.Linked.{HasMoved, link_marked}
-use Rattle.room_lock.specs.Shared.{sub_of, subs_of}
 use Rattle.room_lock.proofs.JoinedLemmas.{ToldBoth, apart_of, both_joined, both_known, both_refused, both_stay, cause_at, in_again, joined_fits, receipt_is, second_gone, second_low, second_recs, second_sub}
 use Rattle.room_lock.proofs.MemberLemmas.{all_distinct, numbers_are}
 use Rattle.room_lock.proofs.RecLemmas.{some_one}

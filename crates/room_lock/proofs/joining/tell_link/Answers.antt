@@ -10,13 +10,12 @@ use Rattle.pcm_stream.specs.Members.{numbers_of}
 use Rattle.pcm_stream.specs.MembersStand.{AllStandFor}
 use Rattle.pcm_stream.specs.declared.members.Member.{Member}
 use Rattle.room_parts.specs.Links.{link_entry, link_event}
-use Rattle.room_parts.specs.Recs.{RecView}
+use Rattle.room_parts.specs.Recs.{RecView, sub_of, subs_of}
 use Rattle.room_parts.specs.declared.calling.Linked.{Linked}
 use Rattle.room_lock.specs.InGroup.{IsPageIn}
 use Rattle.room_lock.specs.Joined.{IsJoined}
 use Rattle.room_lock.specs.Linked.{link_marked}
 use Rattle.room_lock.specs.Recorded.{HasCalled}
-use Rattle.room_lock.specs.Shared.{sub_of, subs_of}
 use Rattle.room_lock.proofs.RecLemmas.{found, get_set, no_rec, some_one}
 use Rattle.room_lock.proofs.Records.{get_map, length_map}
 use Rattle.room_lock.proofs.joining.tell_link.Goals as goal

@@ -52,6 +52,7 @@ returns-clause-recorded g c =
         busy = did.busy;
         list = did.first_list;
         onward = did.first_onward;
+        held = did.pass_held;
       };
     } in
     λ r q at at'.

@@ -67,6 +67,7 @@ returns g c =
         busy = did.busy ∙ ap busy_after c.entry.ensures;
         list = did.list;
         onward = did.onward;
+        held = did.held.1;
       };
     } in
     λ r at. subst (λ (k : RecView). IsLinkRecordedOnce c.args.own l c.args.first.now k xs (slice_set xs c.args.own c.call_on.new.rec) p c.call_on.new.pass) (some_one r0 r (sym here ∙ at)) now

@@ -14,14 +14,13 @@ use Rattle.pcm_stream.specs.declared.members.Member.{Member}
 use Rattle.room_book.specs.Logs.{is_ok}
 use Rattle.room_book.specs.Rooms.{fresh_streams}
 use Rattle.room_book.specs.declared.book.BookEntry.TheVariants.{In, Out}
-use Rattle.room_parts.specs.Recs.{RecView}
+use Rattle.room_parts.specs.Recs.{RecView, sub_of}
 use Rattle.room_parts.specs.declared.calling.Linked.{Linked}
 use Rattle.room_lock.specs.declared.recording.Receipt.{Receipt}
 use Rattle.room_lock.specs.InGroup.{IsPageIn}
 use Rattle.room_lock.specs.InRoom.{FitsIn, IsIn, RoomView}
 use Rattle.room_lock.specs.Inside.{view_of}
 use Rattle.room_lock.specs.Linked.{link_marked, link_of}
-use Rattle.room_lock.specs.Shared.{sub_of}
 use Rattle.room_lock.proofs.MemberLemmas.{all_distinct, numbers_are}
 use Rattle.room_lock.proofs.RecLemmas.{room_left}
 use Rattle.room_lock.proofs.SharedLemmas.{get_last}

@@ -15,10 +15,9 @@ use Rattle.pcm_stream.specs.declared.members.Member.{Member}
 use Rattle.pcm_stream.specs.declared.members.Members.{Members}
 use Rattle.room_book.specs.declared.book.BookEntry.{BookEntry}
 use Rattle.room_book.specs.declared.book.BookEntry.TheVariants.{In, Out}
-use Rattle.room_parts.specs.Recs.{RecView}
+use Rattle.room_parts.specs.Recs.{RecView, sub_of, subs_of}
 use Rattle.room_lock.specs.Joined.{HasRoom}
 use Rattle.room_lock.specs.Linked.{HasMoved}
-use Rattle.room_lock.specs.Shared.{sub_of, subs_of}
 use Rattle.room_lock.proofs.MaskLemmas.{mask_of-append}
 use Rattle.room_lock.proofs.LeavingLemmas.{length_remove}
 use Rattle.room_lock.proofs.PartingLemmas.{pair_of}

@@ -19,14 +19,13 @@ use Rattle.room_book.specs.Logs.{is_ok}
 use Rattle.room_book.specs.Rooms.{fresh_streams}
 use Rattle.room_book.specs.declared.book.BookEntry.{BookEntry}
 use Rattle.room_book.specs.declared.book.BookEntry.TheVariants.{In, Out}
-use Rattle.room_parts.specs.Recs.{RecView}
+use Rattle.room_parts.specs.Recs.{RecView, sub_of, subs_of}
 use Rattle.room_lock.specs.InRoom.{FitsIn, InRoom, IsIn, RoomView}
 use Rattle.room_lock.specs.Inside.{view_of}
 use Rattle.room_lock.specs.Joined.{HasRoom}
 use Rattle.room_lock.specs.InGroup.{IsPageIn}
 use Rattle.room_lock.specs.Leaving.{woken_apart}
 use Rattle.room_lock.specs.Parting.{at_home}
-use Rattle.room_lock.specs.Shared.{sub_of, subs_of}
 use Rattle.room_lock.proofs.JoinedLemmas.{in_again}
 use Rattle.room_lock.proofs.LeavingLemmas.{empty_in, empty_recs, gone_fits, in_cause, in_known, in_receipt, rec_at, rec_low, rec_room, rec_sub, still_fits, told_in, told_subs}
 use Rattle.room_lock.proofs.PartingLemmas.{is_kept, is_parted, nobody_stays, other_home, other_of}

@@ -48,6 +48,7 @@ returns g c =
         busy = did.busy;
         list = did.list;
         onward = did.onward;
+        held = did.held.1;
       };
     } in
     record {

@@ -7,7 +7,7 @@ use Rattle.floor_rule.specs.declared.entry.Entry.{Entry}
 use Rattle.floor_rule.specs.declared.entry.Entry.TheVariants as entry
 use Rattle.floor_rule.specs.declared.entry.Joint.{Joint}
 use Rattle.floor_rule.specs.declared.rule.Marked.{Marked}
-use Rattle.room_parts.specs.Recs.{RecView}
+use Rattle.room_parts.specs.Recs.{RecView, sub_of, subs_of}
 use Rattle.room_lock.specs.Joined.{HasOwn}
 use Rattle.card_emul.specs.declared.any_card.AnyCard.{AnyCard}
 use Rattle.card_emul.specs.contracts.any_card.AnyCardCard.TheImpl.{ghosts}
@@ -16,7 +16,7 @@ use Rattle.pcm_stream.specs.Members.{members_of, numbers_of}
 use Rattle.room_lock.proofs.Records.{all_voted, few_voted, get_map, length_map}
 use Rattle.room_lock.specs.Joints.{AreVotes, joints_at}
 use Rattle.room_lock.specs.Recorded.{IsOwnRecorded, called}
-use Rattle.room_lock.specs.Shared.{SharedTo, shared_by, sub_of, subs_of}
+use Rattle.room_lock.specs.Shared.{SharedTo, shared_by}
 use Rattle.room_lock.proofs.RecLemmas.{found, get_other, get_set, no_rec, some_one}
 use Rattle.room_lock.proofs.SharedLemmas.{get_last, subs_set}
 use Rattle.room_lock.proofs.recording.record_turn.Goals as goal

@@ -1,10 +1,10 @@
 use Rattle.std.proofs.Common.{◌≡◌, ◌≤◌, ◌<◌, ◌+◌, ℕ, List, length, slice_get, get_or, Some, sym, ap, ◌∙◌, subst, arith}
 use Rattle.pcm_base.specs.declared.ids.SubId.{SubId}
 use Rattle.pcm_base.specs.declared.state.State.{State}
-use Rattle.room_parts.specs.Recs.{RecView}
+use Rattle.room_parts.specs.Recs.{RecView, sub_of}
 use Rattle.room_lock.specs.Joined.{Gains}
 use Rattle.room_lock.specs.Joints.{shared_at}
-use Rattle.room_lock.specs.Shared.{SharedTo, Untouched, shared_by, sub_of}
+use Rattle.room_lock.specs.Shared.{SharedTo, Untouched, shared_by}
 use Rattle.room_lock.proofs.RecLemmas.{found, no_rec}
 use Rattle.card_emul.specs.declared.any_card.AnyCard.{AnyCard}
 use Rattle.card_emul.specs.contracts.any_card.AnyCardCard.TheImpl.{ghosts}

@@ -31,4 +31,5 @@ returns-clause-refused g c =
       subs = subs_set xs place r s at page.log.1;
       places = map_set (λ (x : RecView). x.knows.place) xs place r s at page.log.2;
       calls = page.calls;
+      held = page.held.1;
     }

@@ -15,7 +15,7 @@ use Rattle.room_book.specs.Logs.{is_ok}
 use Rattle.room_book.specs.Rooms.{fresh_streams}
 use Rattle.room_parts.specs.Links.{link_entry, link_event}
 use Rattle.room_parts.specs.Passes.{IsAlone, PassView}
-use Rattle.room_parts.specs.Recs.{RecView}
+use Rattle.room_parts.specs.Recs.{RecView, sub_of, subs_of}
 use Rattle.room_parts.specs.declared.calling.Linked.{Linked}
 use Rattle.room_lock.specs.InGroup.{IsPageIn}
 use Rattle.room_lock.specs.InRoom.{IsIn}
@@ -26,7 +26,6 @@ use Rattle.room_lock.specs.declared.recording.Receipt.{Receipt}
 use Rattle.room_lock.specs.Known.{Knows}
 use Rattle.room_lock.specs.Linked.{HasLinked, IsLinkRecordedOnce, IsToldAt, link_marked}
 use Rattle.room_lock.specs.Recorded.{HasCalled}
-use Rattle.room_lock.specs.Shared.{sub_of, subs_of}
 use Rattle.room_lock.specs.Staying.{lone_link}
 use Rattle.room_lock.proofs.LinkLemmas.{LinkOn, none_due, room_fits, standing_of}
 use Rattle.room_lock.proofs.MemberLemmas.{numbers_are}

@@ -17,10 +17,9 @@ use Rattle.room_book.specs.Logs.{answered, is_ok}
 use Rattle.room_book.specs.Rooms.{fresh_streams}
 use Rattle.room_book.specs.declared.book.BookEntry.{BookEntry}
 use Rattle.floor_rule.specs.declared.rule.Marked.{Marked}
-use Rattle.room_parts.specs.Recs.{RecView}
+use Rattle.room_parts.specs.Recs.{RecView, sub_of}
 use Rattle.room_lock.specs.InRoom.{FitsIn, InRoom, IsIn, RoomView}
 use Rattle.room_lock.specs.Inside.{view_of}
-use Rattle.room_lock.specs.Shared.{sub_of}
 use Rattle.room_lock.specs.Staying.{IsUnlinkTold, unlink_by, unlink_reply}
 use Rattle.room_lock.specs.Turning.{logs_of}
 use Rattle.room_lock.proofs.JoinedLemmas.{only_one}

@@ -14,7 +14,7 @@ use Rattle.pcm_stream.specs.declared.members.Member.{Member}
 use Rattle.room_parts.specs.Passes.{IsAlone, IsBy}
 use Rattle.room_lock.specs.InGroup.{IsPageIn}
 use Rattle.room_lock.specs.Recorded.{IsOwnRecorded}
-use Rattle.room_lock.specs.Shared.{sub_of}
+use Rattle.room_parts.specs.Recs.{sub_of}
 use Rattle.room_lock.proofs.RecLemmas.{found, no_rec}
 use Rattle.room_lock.proofs.Records.{get_map, length_map}
 use Rattle.room_lock.proofs.unlinking.tell_unlink.Goals as goal

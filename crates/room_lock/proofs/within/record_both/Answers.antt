@@ -109,6 +109,7 @@ returns-then-own-other-clause-recorded g c =
         busy = did.busy;
         list = did.first_list;
         onward = did.first_onward;
+        held = did.pass_held;
       };
     } in
     λ r q at at'. (
@@ -168,6 +169,7 @@ returns-else-own-other-clause-recorded g c =
         busy = did.busy;
         list = did.first_list;
         onward = did.first_onward;
+        held = did.pass_held;
       };
     } in
     λ r q at at'. (

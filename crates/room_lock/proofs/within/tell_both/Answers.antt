@@ -10,14 +10,13 @@ use Rattle.pcm_stream.specs.Members.{numbers_of}
 use Rattle.pcm_stream.specs.MembersStand.{AllStandFor}
 use Rattle.pcm_stream.specs.declared.members.Member.{Member}
 use Rattle.room_book.specs.Rooms.{fresh_streams}
-use Rattle.room_parts.specs.Recs.{RecView}
+use Rattle.room_parts.specs.Recs.{RecView, sub_of, subs_of}
 use Rattle.room_lock.specs.declared.recording.Receipt.{Receipt}
 use Rattle.room_lock.specs.Answers.{log_in}
 use Rattle.room_lock.specs.InGroup.{IsPageIn}
 use Rattle.room_lock.specs.InRoom.{FitsIn, InRoom, IsIn, RoomView}
 use Rattle.room_lock.specs.Inside.{view_of}
 use Rattle.room_lock.specs.Linked.{IsLinkRecorded}
-use Rattle.room_lock.specs.Shared.{sub_of, subs_of}
 use Rattle.room_lock.proofs.KnownLemmas.{in_room}
 use Rattle.room_lock.proofs.MemberLemmas.{numbers_are}
 use Rattle.room_lock.proofs.RecLemmas.{found, no_rec}

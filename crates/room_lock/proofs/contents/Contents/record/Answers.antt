@@ -13,7 +13,7 @@ use Rattle.room_book.specs.declared.book.BookEntry.{BookEntry}
 use Rattle.room_book.specs.declared.book.BookEntry.TheVariants.{Act}
 use Rattle.room_lock.specs.Joints.{AreVotes}
 use Rattle.room_lock.specs.Recorded.{IsRecorded}
-use Rattle.room_lock.specs.Shared.{sub_of}
+use Rattle.room_parts.specs.Recs.{sub_of}
 use Rattle.room_lock.specs.Turning.{logs_of}
 use Rattle.room_lock.proofs.AfterTurn.{acts_both, acts_few, no_link, none_due, own_is_member, placed_recorded, subs_recorded}
 use Rattle.room_lock.proofs.MemberLemmas.{numbers_are}

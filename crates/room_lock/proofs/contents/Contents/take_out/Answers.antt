@@ -12,7 +12,7 @@ use Rattle.pcm_group.specs.Inside.{members_in}
 use Rattle.pcm_group.specs.declared.group.Group.{Group}
 use Rattle.pcm_stream.specs.Members.{members_of, numbers_of}
 use Rattle.pcm_stream.specs.declared.members.Member.{Member}
-use Rattle.room_lock.specs.Shared.{sub_of, subs_of}
+use Rattle.room_parts.specs.Recs.{sub_of, subs_of}
 use Rattle.room_lock.proofs.LeavingLemmas.{map_remove}
 use Rattle.room_lock.proofs.MemberLemmas.{distinct_of}
 use Rattle.room_lock.proofs.RecLemmas.{found, no_rec, some_one}

@@ -3,12 +3,13 @@ use Rattle.pcm_base.specs.model.Stream.{Member}
 use Rattle.room_book.specs.Rooms.{fresh_streams}
 use Rattle.room_parts.specs.Passes.{PassView}
 use Rattle.room_lock.specs.Answers.{OnFull, log_in, turn_of}
+use Rattle.room_lock.specs.Handed.{IsHanded}
 use Rattle.room_lock.specs.Ready.{IsFull}
 use Rattle.room_lock.specs.Refused.{IsRefused}
 use Rattle.room_lock.specs.InRoom.{FitsIn, RoomView}
 use Rattle.room_lock.specs.Inside.{view_of}
 use Rattle.room_lock.specs.Known.{Knows, told_log}
-use Rattle.room_lock.proofs.DoneLemmas.{book_turned, left_turned, logs_turned, members_turned, moved_turned, pass_turned, receipt_turned, reply_turned, told_turned, woken_turned}
+use Rattle.room_lock.proofs.DoneLemmas.{book_turned, handed_turned, left_turned, logs_turned, members_turned, moved_turned, pass_turned, receipt_turned, reply_turned, told_turned, woken_turned}
 use Rattle.room_lock.proofs.RoomLemmas.{acts_fit, done_of, fit_of, full_of, memory_of, on_all, on_both, room_of}
 use Rattle.room_lock.proofs.TurnLemmas.{on_done}
 use Rattle.room_lock.proofs.room.Room.turn.Goals as goal
@@ -135,6 +136,19 @@ returns-clause-told g c =
     let fit = fit_of cs long_max c.turn.result c.self.inside.inside.serial (view_of c.self.inside.inside) v P c.self.view_is c.self.invariant.fits_in.acts c.turn.ensures.fit xs room in
     on_both c.turn.result _ _ (λ reply receipt woken. told_log receipt c.turn.new.pass.knows ≡ log_in e.sub w.recs)
     (λ reply receipt woken d f. told_turned cs long_max e c.args.io.now c.turn.new.io xs v w c.args.pass.now c.turn.new.pass reply receipt woken room.fits_in d (acts_fit origin (length cs) c.turn.new.self.serial w.number (turn_of e c.args.io.now xs).members w.recs w.book f)) did fit
+
+pub returns-clause-handed : goal.returns-clause-handed
+returns-clause-handed g c =
+    let cs = g.N.FloorName.cards in
+    let long_max = g.N.FloorName.long_max in
+    let e = c.args.event.now in
+    let v = c.args.self.now in
+    let w = view_of c.turn.new.self in
+    let xs = c.self.invariant.streams in
+    let room = room_of (fresh_streams cs long_max) (length cs) c.self.inside.inside.serial (view_of c.self.inside.inside) v c.self.invariant c.self.view_is in
+    let did = done_of cs long_max c.turn.result e c.args.io.now c.turn.new.io c.self.inside.inside.serial (view_of c.self.inside.inside) v w c.args.pass.now c.turn.new.pass c.self.view_is c.self.invariant.fits_in.acts c.turn.ensures.done xs room in
+    on_done c.turn.result _ (λ reply receipt woken. IsHanded cs long_max e.sub (told_log receipt c.turn.new.pass.knows) receipt.index c.args.io.now)
+    (λ reply receipt woken d. handed_turned cs long_max e c.args.io.now c.turn.new.io xs v w c.args.pass.now c.turn.new.pass reply receipt woken room.fits_in d c.runs.ensures c.marks.ensures.streams c.moves.ensures.log c.requires.call) did
 
 pub returns-clause-caller : goal.returns-clause-caller
 returns-clause-caller g c =
