@@ -1,6 +1,6 @@
 -- The logs of a floor at rest, of which each number has one, and what follows for them from what was told.
 use Rattle.std.proofs.Common.{◌≡◌, ◌≢◌, inl, inr, ℕ, zero, suc, ◌+◌, ◌<◌, true, false, Bool, eq-eqb, ne_eqb, List, [], ◌∷◌, length, slice_get, Some, refl, sym, ap, ◌∙◌, subst, arith}
-use Rattle.std.specs.Prelude.{nat_eq, leb, if◌then◌else◌}
+use Rattle.std.specs.Prelude.{nat_eq, if◌then◌else◌}
 use Rattle.std.proofs.Math.Nat.{suc_inj}
 use Rattle.std.proofs.lemmas.Option.{same_Some, slice_get_within}
 use mathlib.Core.Logic.{dite}
@@ -18,7 +18,7 @@ use Rattle.floor_rule.specs.declared.rule.Made.{Made}
 use Rattle.floor_rule.specs.declared.rule.Marked.{Marked}
 use Rattle.floor_rule.specs.Causes.{At, Tells}
 use Rattle.floor_rule.specs.Laws.{CallsStandOnce, OwnEntriesAreCalls, StandsInLog}
-use Rattle.floor_rule.specs.Lists.{AllOf, Stands, longer, longest}
+use Rattle.floor_rule.specs.Lists.{AllOf, Stands}
 use Rattle.floor_rule.specs.Marks.{IsOnce, is_call}
 use Rattle.floor_rule.specs.Pages.{AllReadOf}
 use Rattle.floor_rule.specs.Rule.{Among, Distinct, IsNone}
@@ -80,22 +80,6 @@ among_at : (j : ℕ) (ls : List (ℕ × List Marked)) → Among j (numbers_of ls
 among_at j [] h = absurd h
 among_at j (l ∷ ls) (inl same) = (0, l, refl, same)
 among_at j (l ∷ ls) (inr h) = let t = among_at j ls h in (suc t.0, t.1, t.2, t.3)
-
--- the longest of some beginnings of a log is a beginning of it
-
-longer_begins : (xs ys log : List Marked) → IsPrefix xs log → IsPrefix ys log → IsPrefix (longer xs ys) log
-longer_begins xs ys log a b = by_test (leb (length xs) (length ys))
-  where
-    by_test : (t : Bool) → IsPrefix (if t then ys else xs) log
-    by_test true = b
-    by_test false = a
-
-longest_begins : (j : ℕ) (log : List Marked) (ps : List (ℕ × List Marked)) → AllOf j (λ l. IsPrefix l log) ps → IsPrefix (longest j ps) log
-longest_begins j log [] h = (log, refl)
-longest_begins j log (p ∷ ps) h =
-    dite (ℕ_discrete p.0 j)
-    (λ e. subst (λ b. IsPrefix (if b then longer p.1 (longest j ps) else longest j ps) log) (sym (eq-eqb p.0 j e)) (longer_begins p.1 (longest j ps) log (h.0 e) (longest_begins j log ps h.1)))
-    (λ ne. subst (λ b. IsPrefix (if b then longer p.1 (longest j ps) else longest j ps) log) (sym (ne_eqb p.0 j ne)) (longest_begins j log ps h.1))
 
 -- what a pass keeps of its call of one number
 
@@ -171,7 +155,7 @@ module _ (in_log : StandsInLog) (own_calls : OwnEntriesAreCalls) (stand_once : C
     begins = λ j lt.
         let t = there j lt in
         let a = met.agree t.0 t.1 t.2 in
-        subst (IsPrefix (longest j p.knows.held.logs)) (sym t.4) (longest_begins j t.1.1 p.knows.held.logs (subst (λ s. AllOf s (λ l. IsPrefix l t.1.1) p.knows.held.logs) t.3 a.lists));
+        subst (λ (z : ℕ × List Marked). AllOf z.0 (λ l. IsPrefix l z.1) p.knows.held.logs) (λ i. (t.3 i, sym t.4 i)) a.lists;
     pages = λ j lt.
         let t = there j lt in
         let a = met.agree t.0 t.1 t.2 in
@@ -220,4 +204,6 @@ module _ (in_log : StandsInLog) (own_calls : OwnEntriesAreCalls) (stand_once : C
       caused = λ j i e at. subst (λ k. HasCause k (log_at ls) j e.entry e.mark) count (causes found j i e at);
     };
     from = λ m l at. (subst (λ k. l.0 < k) count (below_at n ls m l below at), at_log ls apart m l at);
+    every = λ j lt. whole j (subst (λ k. j < k) (sym count) lt);
+    once = apart;
   }

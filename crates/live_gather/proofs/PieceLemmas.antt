@@ -18,8 +18,8 @@ use Rattle.floor_rule.specs.declared.rule.Marked.{Marked}
 use Rattle.room_book.specs.Logs.{PlaysLog, Replayed, nothing}
 use Rattle.room_book.specs.Rooms.{EachFits, LogFits, fresh_streams, joints_now, start}
 use Rattle.room_book.specs.declared.book.BookEntry.{BookEntry}
-use Rattle.room_parts.specs.Recs.{RecView}
-use Rattle.live_gather.specs.Pieces.{FitInRoom, HasPlayed, log_of, subs_of, with_logs}
+use Rattle.room_parts.specs.Recs.{RecView, subs_of}
+use Rattle.live_gather.specs.Pieces.{FitInRoom, HasPlayed, log_of, with_logs}
 
 -- the stream of each of some members that differ in their numbers
 

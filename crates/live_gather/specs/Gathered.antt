@@ -8,9 +8,10 @@ use Rattle.pcm_base.specs.declared.config.CardModel.{CardModel}
 use Rattle.pcm_base.specs.declared.ids.SubId.{SubId}
 use Rattle.pcm_base.specs.declared.state.Dir.{Dir}
 use Rattle.floor_rule.specs.Causes.{At, Causes, Tells}
-use Rattle.floor_rule.specs.Lists.{longest}
+use Rattle.floor_rule.specs.Lists.{AllOf}
 use Rattle.floor_rule.specs.Marks.{count_of, is_call}
 use Rattle.floor_rule.specs.Pages.{AllReadOf}
+use Rattle.floor_rule.specs.Rule.{Among, Distinct}
 use Rattle.floor_rule.specs.declared.entry.Entry.{Entry}
 use Rattle.floor_rule.specs.declared.entry.EntryMark.{EntryMark}
 use Rattle.floor_rule.specs.declared.entry.EntryMark.TheVariants as mark
@@ -18,7 +19,7 @@ use Rattle.floor_rule.specs.declared.rule.Made.{Made}
 use Rattle.floor_rule.specs.declared.rule.Marked.{Marked}
 use Rattle.room_parts.specs.Passes.{PassView}
 use Rattle.room_parts.specs.Recs.{entries_of}
-use Rattle.live_gather.specs.Pieces.{HasPlayed}
+use Rattle.live_gather.specs.Pieces.{HasPlayed, numbers_of}
 use Rattle.live_gather.specs.declared.gathered.Gathered.{Gathered}
 
 -- the event names substream j: as its own, or as the second of a link
@@ -39,9 +40,9 @@ pub record AreCalls (cards : ℕ) (logs : ℕ → List Marked) (caller : ℕ) (c
   pub made : (j i k : ℕ) (e : Marked) → At logs j i e → is_call caller k e.mark ≡ true → (m : Made) × (slice_get calls k ≡ Some m) × HasCall logs caller k m j i
   pub once : (j h i k : ℕ) (d e : Marked) → At logs j h d → is_call caller k d.mark ≡ true → At logs j i e → is_call caller k e.mark ≡ true → h ≡ i
 
--- The logs agree with what a pass knows: they begin with its lists, they have the pages that it read, each of its calls has its entry at its receipt, in the log of its own substream, and its caller's entries are exactly its calls.
+-- The logs agree with what a pass knows: each begins with every list that it holds of it, they have the pages that it read, each of its calls has its entry at its receipt, in the log of its own substream, and its caller's entries are exactly its calls.
 pub record AgreesWith (cards : ℕ) (logs : ℕ → List Marked) (p : PassView) : Type 0 where
-  pub begins : (j : ℕ) → j < cards → IsPrefix (longest j p.knows.held.logs) (logs j)
+  pub begins : (j : ℕ) → j < cards → AllOf j (λ log. IsPrefix log (logs j)) p.knows.held.logs
   pub pages : (j : ℕ) → j < cards → AllReadOf j (logs j) p.knows.reads
   pub receipts : (k : ℕ) (m : Made) → slice_get p.knows.calls k ≡ Some m → (m.event.sub.0 < cards) × ((i : ℕ) × (slice_get p.knows.receipts k ≡ Some (m.event.sub.0, i)) × HasCall logs p.knows.number k m m.event.sub.0 i)
   pub calls : AreCalls cards logs p.knows.number p.knows.calls
@@ -65,7 +66,9 @@ pub record IsGathered (cards : List (CardModel × Dir)) (long_max : ℕ) (ps : L
   pub passes : (i : ℕ) (p : PassView) → slice_get ps i ≡ Some p → AgreesWith (length cards) logs p
   pub caused : (j i : ℕ) (e : Marked) → At logs j i e → HasCause (length cards) logs j e.entry e.mark
 
--- What is gathered of these logs: each of them is that of the card of its number.
+-- What is gathered of these logs: each of them is that of the card of its number, and each card has one of them.
 pub record IsGatheredFrom (cards : List (CardModel × Dir)) (long_max : ℕ) (ls : List (ℕ × List Marked)) (ps : List PassView) (gs : List Gathered) : Type 0 where
   pub gathered : IsGathered cards long_max ps gs
   pub from : (i : ℕ) (l : ℕ × List Marked) → slice_get ls i ≡ Some l → (l.0 < length cards) × (gathered.logs l.0 ≡ l.1)
+  pub every : (j : ℕ) → j < length cards → Among j (numbers_of ls)
+  pub once : Distinct (numbers_of ls)

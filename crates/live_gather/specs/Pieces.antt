@@ -3,7 +3,6 @@ use Rattle.std.specs.Prelude.{◌≡◌, ℕ, List, [], ◌∷◌, ◌++◌, map
 use Rattle.card_emul.specs.declared.any_card.AnyCard.{AnyCard}
 use Rattle.card_emul.specs.contracts.any_card.AnyCardCard.TheImpl.{ghosts}
 use Rattle.pcm_base.specs.declared.config.CardModel.{CardModel}
-use Rattle.pcm_base.specs.declared.ids.SubId.{SubId}
 use Rattle.pcm_base.specs.declared.state.Dir.{Dir}
 use Rattle.pcm_base.specs.model.Acts.{subs}
 use Rattle.pcm_base.specs.model.Replay.{Distinct}
@@ -17,7 +16,7 @@ use Rattle.floor_rule.specs.declared.rule.RecKnows.{RecKnows}
 use Rattle.room_book.specs.Logs.{PlaysLog, Replayed, nothing}
 use Rattle.room_book.specs.Rooms.{EachFits, fresh_streams, start}
 use Rattle.room_book.specs.declared.book.BookEntry.{BookEntry}
-use Rattle.room_parts.specs.Recs.{RecView}
+use Rattle.room_parts.specs.Recs.{RecView, subs_of}
 
 -- the whole log of a rec, with the number of its substream
 abbrev pub log_of : RecKnows → ℕ × List Marked
@@ -38,9 +37,6 @@ pub record HasPlayed (cards : List (CardModel × Dir)) (long_max : ℕ) (l : ℕ
   pub plays : PlaysLog (record { 0 = l.0 }) (start (fresh_streams cards long_max) (record { 0 = l.0 })) l.1 replayed
   pub settled : replayed.due ≡ nothing
   pub stands : StandsFor s replayed.stream
-
-abbrev pub subs_of : List RecView → List SubId
-subs_of rs = map (λ (r : RecView). let k : SubId = record { 0 = r.knows.sub } in k) rs
 
 -- Each member has its rec in the same place, whose log fits in their room with the stream for which the member stands.
 pub record FitInRoom (cards : List (CardModel × Dir)) (long_max : ℕ) (rs : List RecView) (ms : List (Member AnyCard ghosts)) : Type 0 where
