@@ -17,8 +17,7 @@ use Rattle.room_lock.specs.Joining.{joined_by}
 use Rattle.room_lock.specs.Leaving.{gone_home, left_by}
 use Rattle.room_lock.specs.Met.{met, stay}
 use Rattle.room_lock.specs.Parting.{left_home}
-use Rattle.room_lock.specs.Shared.{subs_of}
-use Rattle.room_parts.specs.Recs.{RecView}
+use Rattle.room_parts.specs.Recs.{RecView, subs_of}
 use Rattle.room_lock.specs.declared.answer.Answer.{Answer}
 use Rattle.room_lock.specs.declared.answer.Answer.TheVariants.{Done, LogFull, Memory}
 

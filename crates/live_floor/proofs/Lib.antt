@@ -3,3 +3,4 @@ pub mod Growing
 pub mod LinkFacts
 pub mod UnlinkFacts
 pub mod Counting
+pub mod Resting

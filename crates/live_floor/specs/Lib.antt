@@ -3,3 +3,4 @@ pub mod Passes
 pub mod Turns
 pub mod Links
 pub mod Unlinks
+pub mod Rooms

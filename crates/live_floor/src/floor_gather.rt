@@ -1,6 +1,7 @@
 // A floor whose calls are over is taken apart, and gathered.
 ghost use Rattle.std.specs.Prelude.{◌≡◌, ◌≤◌, ◌+◌, ◌++◌, length, vec_len, vec_capacity};
-ghost use Rattle.live_gather.specs.Gathered.{IsGathered};
+ghost use Rattle.live_gather.specs.Pieces.{with_logs};
+ghost use Rattle.live_floor.specs.Rooms.{AreTaken, IsAtRest, IsFit};
 
 use crate::counted::CountedRoom;
 use crate::floor::{Desk, Floor};
@@ -24,6 +25,8 @@ fn take_room<N: FloorName + Ledger>(
     ensures parts { share.new.parts ≡ share.old.parts + 1 }
     ensures count { share.new.amount ≡ vec_len pieces.new }
     ensures room { 16 ≤ vec_capacity pieces.new }
+    ensures pieces { pieces.new.items ≡ with_logs pieces.old.items found.room.recs }
+    ensures fits { IsFit N.cards N.long_max found.room }
 {
     let CountedRoom { room, share: part } = found;
     share.merge(part);
@@ -43,6 +46,7 @@ fn take_apart<N: FloorName + Ledger>(
     requires total { (total.now.parts ≡ 32) × (total.now.amount ≡ length N.cards) }
     requires room { (vec_len pieces.old ≡ 0) × (16 ≤ vec_capacity pieces.old) }
     ensures count { vec_len pieces.new ≡ length N.cards }
+    ensures taken { AreTaken N.cards N.long_max pieces.new.items }
 {
     let Some(first) = rooms.pop() else {
         unreachable!()
@@ -59,10 +63,10 @@ fn take_apart<N: FloorName + Ledger>(
 impl<N: FloorName + Ledger> Floor<N> {
     /// The logs of a floor whose calls are over, handed back with its passes: one for each card, in order, with the stream to
     /// which it plays. Each log begins with what each of the passes was told of it; the entries of each caller are exactly the
-    /// calls that it made, each once; each part in an act and each move has its cause. It takes no memory and waits for
-    /// nobody.
+    /// calls that it made, each once; each part in an act and each move has its cause. The logs are those of the rooms in
+    /// which the substreams stood at the end, each of which fits its book. It takes no memory and waits for nobody.
     pub fn gather(self, passes: Passes<N>) -> Vec<Gathered>
-        ensures { IsGathered N.cards N.long_max (passes.clients.items ++ passes.cards.items) result.items }
+        ensures { IsAtRest N.cards N.long_max (passes.clients.items ++ passes.cards.items) result.items }
     {
         let Floor {
             words,

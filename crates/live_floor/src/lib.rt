@@ -17,6 +17,8 @@ mod passes;
 mod tests;
 mod turn;
 mod unlinking;
+#[cfg(test)]
+mod worked_tests;
 
 pub use floor::Floor;
 pub use passes::Passes;

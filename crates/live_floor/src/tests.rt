@@ -6,6 +6,7 @@ ghost use Rattle.card_emul.specs.Limits.{basic};
 ghost use Rattle.pcm_base.specs.declared.state.Dir.TheVariants.{Capture as CaptureDir, Playback as PlaybackDir};
 ghost use Rattle.pcm_group.specs.Turn.{is_card_event, is_group_call};
 ghost use Rattle.room_parts.specs.Passes.{IsBy};
+ghost use Rattle.room_parts.specs.declared.pass.Caller.TheVariants.{Card, Client};
 
 use super::*;
 use floor_rule::{Glance, Maker, SharedWords};
@@ -32,7 +33,7 @@ const OTHER: SubId = SubId(1);
 const THIRD: SubId = SubId(2);
 
 // Two periods of two one-byte frames.
-const SMALL: Config = Config {
+pub(crate) const SMALL: Config = Config {
     access: Access::RwInterleaved,
     format: Format::U8,
     channels: 1,
@@ -102,6 +103,39 @@ fn done(reply: Reply, index: u32, state: State, hw: u64) -> (Answer, Glance)
     (answer, page)
 }
 
+// A client opens the card, sets it up and fills its buffer.
+fn fill<N: FloorName + Ledger, R: Abort + Wait>(rt: &R, f: &Floor<N>, client: &mut Pass<N>)
+    requires card { 0 < length N.cards }
+    requires client { client.old.caller ≡ Client CLIENT }
+    ensures caller { client.new.caller ≡ Client CLIENT }
+{
+    let open = by_client(Call::OpenSub);
+    let hw = by_client(Call::HwParams(SMALL));
+    let prepare = by_client(Call::Prepare);
+    let write = by_client(Call::Write(Layout::Interleaved, Mode::NonBlock));
+    let got = answered(rt, f, client, open, &mut []);
+    assert_eq!(rt; got, done(Reply::Ok, 0, State::Opened, 0));
+    let got = answered(rt, f, client, hw, &mut []);
+    assert_eq!(rt; got, done(Reply::Ok, 1, State::Setup, 0));
+    let got = answered(rt, f, client, prepare, &mut []);
+    assert_eq!(rt; got, done(Reply::Ok, 2, State::Prepared, 0));
+    let got = answered(rt, f, client, write, &mut [1, 2, 3, 4]);
+    assert_eq!(rt; got, done(Reply::Frames(4), 3, State::Running, 0));
+}
+
+// The card moves by three frames, and interrupts.
+fn take_three<N: FloorName + Ledger, R: Abort + Wait>(rt: &R, f: &Floor<N>, card: &mut Pass<N>)
+    requires card { 0 < length N.cards }
+    requires caller { card.old.caller ≡ Card CARD }
+{
+    let movement = by_card(Call::MoveBy(3));
+    let interrupt = by_card(Call::Irq);
+    let got = answered(rt, f, card, movement, &mut []);
+    assert_eq!(rt; got, done(Reply::Moved(3), 4, State::Running, 0));
+    let got = answered(rt, f, card, interrupt, &mut []);
+    assert_eq!(rt; got, done(Reply::Ok, 5, State::Running, 3));
+}
+
 fn playing<N: FloorName + Ledger, R: Abort + Wait>(
     rt: &R,
     alloc: Global,
@@ -119,27 +153,10 @@ fn playing<N: FloorName + Ledger, R: Abort + Wait>(
     let mut clients = passes.clients;
     let mut of_cards = passes.cards;
     let client = &mut clients[0];
-    let card = &mut of_cards[0];
     let f = &floor;
-    let open = by_client(Call::OpenSub);
-    let hw = by_client(Call::HwParams(SMALL));
-    let prepare = by_client(Call::Prepare);
-    let write = by_client(Call::Write(Layout::Interleaved, Mode::NonBlock));
-    let movement = by_card(Call::MoveBy(3));
-    let interrupt = by_card(Call::Irq);
+    fill(rt, f, client);
+    take_three(rt, f, &mut of_cards[0]);
     let status = by_client(Call::Status);
-    let got = answered(rt, f, client, open, &mut []);
-    assert_eq!(rt; got, done(Reply::Ok, 0, State::Opened, 0));
-    let got = answered(rt, f, client, hw, &mut []);
-    assert_eq!(rt; got, done(Reply::Ok, 1, State::Setup, 0));
-    let got = answered(rt, f, client, prepare, &mut []);
-    assert_eq!(rt; got, done(Reply::Ok, 2, State::Prepared, 0));
-    let got = answered(rt, f, client, write, &mut [1, 2, 3, 4]);
-    assert_eq!(rt; got, done(Reply::Frames(4), 3, State::Running, 0));
-    let got = answered(rt, f, card, movement, &mut []);
-    assert_eq!(rt; got, done(Reply::Moved(3), 4, State::Running, 0));
-    let got = answered(rt, f, card, interrupt, &mut []);
-    assert_eq!(rt; got, done(Reply::Ok, 5, State::Running, 3));
     let got = answered(rt, f, client, status, &mut []);
     let page = Page {
         state: State::Running,
@@ -234,7 +251,7 @@ fn two_clients_ask_at_once(rt: HostRuntime) -> Result<(), Fail> {
 }
 
 // What a link by the client of a pass is answered. A pass with a call in progress makes none.
-fn linked<N: FloorName + Ledger, R: Wait>(
+pub(crate) fn linked<N: FloorName + Ledger, R: Wait>(
     rt: &R,
     floor: &Floor<N>,
     pass: &mut Pass<N>,
@@ -250,7 +267,7 @@ fn linked<N: FloorName + Ledger, R: Wait>(
 }
 
 // What an unlink is answered.
-fn unlinked<N: FloorName + Ledger, R: Wait>(
+pub(crate) fn unlinked<N: FloorName + Ledger, R: Wait>(
     rt: &R,
     floor: &Floor<N>,
     pass: &mut Pass<N>,

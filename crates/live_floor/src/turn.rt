@@ -7,7 +7,8 @@ ghost use Rattle.pcm_group.specs.Turn.{is_card_event, is_group_call};
 ghost use Rattle.pcm_stream.specs.Members.{numbers_of};
 ghost use Rattle.room_parts.specs.Passes.{IsBy};
 ghost use Rattle.room_lock.specs.Answers.{OnDone, OnFull, OnMemory};
-ghost use Rattle.room_lock.specs.Known.{Knows};
+ghost use Rattle.room_lock.specs.Handed.{IsHanded};
+ghost use Rattle.room_lock.specs.Known.{Knows, told_log};
 ghost use Rattle.live_floor.specs.Turns.{IsRefusedInRoom, IsTurnOfRoom};
 
 use crate::counted::CountedRoom;
@@ -34,6 +35,7 @@ pub(crate) fn turn_in<N: FloorName + Ledger>(
     ensures sub { OnDone result (λ reply receipt woken. receipt.sub ≡ event.now.sub) }
     ensures pass { OnDone result (λ reply receipt woken. Knows N.cards N.long_max event.now (length io.old) reply receipt pass.old pass.new) }
     ensures turn { OnDone result (λ reply receipt woken. IsTurnOfRoom N.cards N.long_max event.now io.old io.new pass.old.knows pass.new.knows reply receipt woken) }
+    ensures handed { OnDone result (λ reply receipt woken. IsHanded N.cards N.long_max event.now.sub (told_log receipt pass.new.knows) receipt.index io.old) }
     ensures never { OnDone result (λ reply receipt woken. reply ≢ MemoryReply) }
     ensures full { OnFull result (λ sub count. IsRefusedInRoom N.cards N.long_max event.now pass.old pass.new sub count × (io.new ≡ io.old)) }
     ensures memory { OnMemory result ((pass.new ≡ pass.old) × (io.new ≡ io.old)) }
