@@ -1,0 +1,4 @@
+pub mod Called
+pub mod Calls
+pub mod Runs
+pub mod Beats
