@@ -1,0 +1,14 @@
+pub mod Called
+pub mod Loading
+pub mod Reporting
+pub mod Saving
+pub mod SetupLines
+pub mod SetupPasses
+pub mod Given
+pub mod Jobs
+pub mod PrefixLemmas
+pub mod MadeLemmas
+pub mod PlayedLemmas
+pub mod RunLemmas
+pub mod PlayLemmas
+pub mod EndLemmas

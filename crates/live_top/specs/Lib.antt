@@ -1,0 +1,9 @@
+pub mod Files
+pub mod Ends
+pub mod Callers
+pub mod Setup
+pub mod Passes
+pub mod Jobs
+pub mod Outcome
+pub mod Played
+pub mod RunEnds
