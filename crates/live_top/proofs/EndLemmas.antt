@@ -1,16 +1,16 @@
 -- How a run ends, from what its parts tell.
-use Rattle.std.proofs.Common.{◌≡◌, ◌<◌, ◌≤◌, ◌⊎◌, ℕ, Bool, true, false, List, [], ◌∷◌, ◌++◌, length, take, drop, Some, None, inl, inr, refl, sym, ap, ◌∙◌, subst, arith, append_assoc}
+use Rattle.std.proofs.Common.{◌≡◌, ℕ, Bool, true, false, List, [], ◌∷◌, ◌++◌, length, take, drop, Some, None, inl, inr, refl, sym, ap, ◌∙◌, subst, append_assoc}
 use Rattle.std.specs.Prelude.{Err, IfSome, Ok}
 use Rattle.std.specs.declared.option.Option.{Option}
 use Rattle.std.specs.Io.KnownBytes.{Appends}
-use Rattle.pcm_io.specs.Shelf.{Files, OthersStay, Stay}
+use Rattle.pcm_io.specs.Shelf.{Files, Stay}
 use Rattle.pcm_base.specs.model.Stream.{Stream}
 use Rattle.pcm_line.specs.declared.line.Line.{Line}
 use Rattle.pcm_line.specs.declared.line.Line.TheVariants as line_is
 use Rattle.pcm_text.specs.declared.status.Status.{Status}
 use Rattle.pcm_text.specs.declared.status.Status.TheVariants as status
 use Rattle.pcm_text.specs.declared.status.Which.TheVariants as which
-use Rattle.live_log.specs.Written.{IsCutInto, IsFrontWritten}
+use Rattle.live_log.specs.Written.{IsFrontWritten}
 use Rattle.live_gather.specs.declared.gathered.Gathered.{Gathered}
 use Rattle.live_plan.specs.declared.error.PlanError.{PlanError}
 use Rattle.live_plan.specs.declared.error.PlanError.TheVariants as error

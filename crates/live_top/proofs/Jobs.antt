@@ -18,11 +18,9 @@ use Rattle.pcm_base.specs.declared.ids.SubId.{SubId}
 use Rattle.pcm_base.specs.declared.state.Dir.{Dir}
 use Rattle.pcm_line.specs.declared.line.Line.{Line}
 use Rattle.room_parts.specs.Passes.{PassView}
-use Rattle.room_parts.specs.declared.pass.Caller.{Caller}
 use Rattle.room_parts.specs.declared.pass.Caller.TheVariants as caller
 use Rattle.live_plan.specs.declared.plan.Plan.{Plan}
 use Rattle.live_plan.specs.Sound.{IsClientLine, IsSound}
-use Rattle.live_work.specs.Beats.{beats}
 use Rattle.live_work.specs.Called.{Call}
 use Rattle.live_work.specs.declared.crew.Stop.{Stop}
 use Rattle.live_top.specs.Callers.{beats_in, lines_of}

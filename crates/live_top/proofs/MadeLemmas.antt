@@ -1,5 +1,5 @@
 -- What a pass has called stands in the logs that are gathered.
-use Rattle.std.proofs.Common.{◌≡◌, ◌<◌, ◌≤◌, ℕ, zero, suc, List, [], ◌∷◌, ◌++◌, length, map, slice_get, take, Some, None, inl, inr, ◌⊎◌, refl, sym, ap, ◌∙◌, subst, arith}
+use Rattle.std.proofs.Common.{◌≡◌, ◌<◌, ℕ, zero, suc, List, [], ◌∷◌, ◌++◌, length, map, slice_get, Some, inl, inr, sym, ap, ◌∙◌, subst, arith}
 use Rattle.std.proofs.lemmas.Option.{same_Some, slice_get_within}
 use mathlib.Core.List.{IsPrefix}
 use Rattle.pcm_base.specs.declared.config.CardModel.{CardModel}
@@ -15,7 +15,7 @@ use Rattle.room_parts.specs.Passes.{PassView}
 use Rattle.room_lock.specs.Handed.{IsHanded}
 use Rattle.live_plan.specs.declared.plan.Plan.{Plan}
 use Rattle.live_gather.specs.Gathered.{AgreesWith, AreCalls, HasCall}
-use Rattle.live_work.specs.Called.{AllHandedIn, Call, HandedIn, HasCalled, MovesBytes, as_made}
+use Rattle.live_work.specs.Called.{AllHandedIn, Call, HandedIn, HasCalled, as_made}
 use Rattle.live_top.specs.Outcome.{AreMadeBy, card_count, cards_of}
 use Rattle.live_top.proofs.PrefixLemmas.{prefix_at, prefix_of, prefix_take}
 

@@ -1,5 +1,5 @@
 -- What is gathered of a floor whose passes have called a run of a plan.
-use Rattle.std.proofs.Common.{◌≡◌, ◌<◌, ◌≤◌, ◌+◌, ℕ, zero, suc, Bool, true, false, List, [], ◌∷◌, ◌++◌, length, map, slice_get, Some, None, refl, sym, ap, ◌∙◌, subst, arith}
+use Rattle.std.proofs.Common.{◌≡◌, ◌<◌, ◌+◌, ℕ, zero, suc, Bool, true, false, List, [], ◌∷◌, ◌++◌, length, slice_get, Some, None, refl, sym, ap, ◌∙◌, subst, arith}
 use Rattle.std.specs.declared.option.Option.{Option}
 use Rattle.std.proofs.lemmas.List.{length-map}
 use Rattle.std.proofs.lemmas.Option.{same_Some, slice_get_within}
@@ -12,17 +12,17 @@ use Rattle.room_book.specs.Rooms.{fresh_streams, start}
 use Rattle.room_parts.specs.Passes.{PassView}
 use Rattle.room_parts.specs.declared.pass.Caller.TheVariants as caller
 use Rattle.live_floor.specs.Cards.{limits}
-use Rattle.live_floor.specs.Passes.{OfCards, OfClients, new_pass}
-use Rattle.live_floor.specs.Rooms.{AreRooms, IsAtRest}
-use Rattle.live_gather.specs.Gathered.{AgreesWith, HasCause, IsGathered, IsGatheredOf}
+use Rattle.live_floor.specs.Passes.{OfCards, OfClients}
+use Rattle.live_floor.specs.Rooms.{IsAtRest}
+use Rattle.live_gather.specs.Gathered.{AgreesWith, HasCause}
 use Rattle.live_gather.specs.declared.gathered.Gathered.{Gathered}
 use Rattle.live_plan.specs.declared.plan.Plan.{Plan}
 use Rattle.live_work.specs.Called.{Call, HasCalled}
 use Rattle.live_top.specs.Callers.{IsClientRun, IsClientStart, card_events}
-use Rattle.live_top.specs.Ends.{AreOf, IsOf, sub_at}
-use Rattle.live_top.specs.Outcome.{AreMadeBy, IsRun, IsRunStart, Played, card_count, cards_of, entries_by, streams_by}
+use Rattle.live_top.specs.Ends.{IsOf, sub_at}
+use Rattle.live_top.specs.Outcome.{AreMadeBy, Played, card_count, cards_of, entries_by}
 use Rattle.live_top.specs.Passes.{AreWhose}
-use Rattle.live_top.specs.Played.{HavePlayed, IsGatheredRun, IsOfCard, IsOfClient, IsRunTo}
+use Rattle.live_top.specs.Played.{HavePlayed, IsGatheredRun, IsRunTo}
 use Rattle.live_top.proofs.MadeLemmas.{are_made}
 
 at_place : {A : Type 0} (xs : List A) (i : ℕ) → i < length xs → (a : A) × (slice_get xs i ≡ Some a)

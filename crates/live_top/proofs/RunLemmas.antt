@@ -1,8 +1,7 @@
 -- A run that came to its end is a beginning of one; what passes have called, first in the setup, then by their workers.
-use Rattle.std.proofs.Common.{◌≡◌, ◌<◌, ◌≤◌, ◌+◌, ℕ, zero, suc, Bool, true, false, List, [], ◌∷◌, ◌++◌, length, slice_get, take, Some, None, refl, sym, ap, ◌∙◌, subst, arith, append-nil, append_assoc}
+use Rattle.std.proofs.Common.{ℕ, List, [], length, sym, subst, append-nil}
 use Rattle.std.specs.declared.option.Option.{Option}
 use Rattle.std.proofs.Math.Seq.{take-length}
-use mathlib.Core.List.{IsPrefix}
 use Rattle.pcm_io.specs.Shelf.{Files}
 use Rattle.pcm_line.specs.declared.line.Line.{Line}
 use Rattle.floor_rule.specs.declared.rule.Marked.{Marked}
@@ -10,7 +9,7 @@ use Rattle.live_plan.specs.declared.plan.Plan.{Plan}
 use Rattle.live_work.specs.Called.{Call}
 use Rattle.live_work.specs.Runs.{AreCallsOf}
 use Rattle.live_top.specs.Callers.{IsClientRun, IsClientStart, card_events, lines_of}
-use Rattle.live_top.specs.Outcome.{IsRun, IsRunStart, card_count}
+use Rattle.live_top.specs.Outcome.{IsRun, IsRunStart}
 use Rattle.live_top.specs.Setup.{IsSetupOf}
 
 module _ (plan : Plan) (files : Option Files) where

@@ -1,5 +1,5 @@
 -- What a setup and the workers have called by the passes of a floor. This project's own.
-use Rattle.std.specs.Prelude.{◌≡◌, ◌<◌, ℕ, ◌+◌, List, length, slice_get, Bool, true, false}
+use Rattle.std.specs.Prelude.{◌≡◌, ℕ, List, length, slice_get, Bool, true, false}
 use Rattle.std.specs.declared.option.Option.TheVariants.{Some}
 use Rattle.pcm_base.specs.declared.call.Event.{Event as CoreEvent}
 use Rattle.pcm_base.specs.declared.config.CardModel.{CardModel}

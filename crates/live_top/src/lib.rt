@@ -6,6 +6,8 @@
 #![tactic(auto)]
 
 mod ending;
+#[cfg(test)]
+mod fault_tests;
 mod files;
 mod halt;
 mod parts;

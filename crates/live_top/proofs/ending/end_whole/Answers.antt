@@ -1,4 +1,4 @@
-use Rattle.std.proofs.Common.{length, sym, subst, ℕ}
+use Rattle.std.proofs.Common.{sym, subst, ℕ}
 use Rattle.std.specs.List.{AllByRecursion}
 use Rattle.live_plan.specs.Sound.{IsSaveLine}
 use Rattle.live_top.specs.Outcome.{entries_by, streams_by}

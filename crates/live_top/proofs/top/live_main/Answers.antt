@@ -1,6 +1,5 @@
-use Rattle.std.proofs.Common.{Err, List, Ok, ℕ, refl, sym, subst}
-use Rattle.pcm_io.specs.Shelf.{Stay}
-use Rattle.live_plan.specs.Plan.{Answer, ComesTo, Gives}
+use Rattle.std.proofs.Common.{refl, sym, subst}
+use Rattle.live_plan.specs.Plan.{Answer, ComesTo}
 use Rattle.live_top.specs.RunEnds.{Ends, Untouched}
 use Rattle.live_top.proofs.EndLemmas.{if_some, refused_ends, run_ends, stay_same}
 use Rattle.live_top.proofs.top.live_main.Goals as goal
