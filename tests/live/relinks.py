@@ -38,8 +38,8 @@ beat s1 2 60
 join
 """
 
-# A write of more than the buffer sleeps until the third client's start; the links are made before and after it.
-SLEEPING = HEAD % (1048576, 1048576) + RELINKS + 'writei c0 s0 b 0102030405060708\n' + RELINKS + 'start c1 s0\n' + RELINKS \
+# The buffer is full, so a write sleeps until the third client's start; the links are made before and after it.
+SLEEPING = (HEAD % (1048576, 1048576)).replace('threads', 'writei c0 s0 n 01020304\nthreads') + RELINKS + 'writei c0 s0 b 0102030405060708\n' + RELINKS + 'start c1 s0\n' + RELINKS \
     + 'start c1 s0\nstatus c2 s1\n' + RELINKS + BEATS
 
 # Both are written and drained, so that both are in one state most of the time.

@@ -194,19 +194,36 @@ fn a_run_that_does_not_begin_writes_nothing(rt: HostRuntime) -> Result<(), Fail>
     Ok(())
 }
 
-// Holds the second call of client 0 for so long that client 1 sleeps in its write.
+// Holds the second call of client 0 until client 1 has come to its first, and then so long that this one sleeps in its write.
 #[derive(Drop)]
 struct Slow {
+    came: AtomicU64,
     turns: AtomicU64,
+}
+
+impl Slow {
+    fn wait_for_other(&self) {
+        for _ in 0..1_000_000_000u64 {
+            if self.came.load(Ordering::SeqCst) == 1 {
+                return;
+            }
+        }
+    }
+
+    fn wait_long(&self) {
+        for turn in 0..100_000_000u64 {
+            self.turns.store(turn, Ordering::SeqCst);
+        }
+    }
 }
 
 impl Gate for Slow {
     fn pass(&self, client: ClientId, nth: u64) {
-        if client.0 != 0 || nth != 2 {
-            return;
-        }
-        for turn in 0..100_000_000u64 {
-            self.turns.store(turn, Ordering::SeqCst);
+        if client.0 == 1 {
+            self.came.store(1, Ordering::SeqCst);
+        } else if nth == 2 {
+            self.wait_for_other();
+            self.wait_long();
         }
     }
 }
@@ -227,12 +244,12 @@ fn a_linked_start_wakes_a_writer_by_its_card_alone(rt: HostRuntime) -> Result<()
 card s1 basic p
 open c0 s0
 hw c0 s0 RW_INTERLEAVED U8 1 8000 2 2
-sw c0 s0 2 5 4 0 0
+sw c0 s0 2 5 1048576 0 0
 prepare c0 s0
 writei c0 s0 n 01020304
 open c1 s1
 hw c1 s1 RW_INTERLEAVED U8 1 8000 2 2
-sw c1 s1 2 5 4 0 0
+sw c1 s1 2 5 1048576 0 0
 prepare c1 s1
 writei c1 s1 n 01020304
 threads
@@ -244,6 +261,7 @@ beat s1 1 4
 join
 ";
     let gate = Slow {
+        came: AtomicU64::new(0),
         turns: AtomicU64::new(0),
     };
     let mut shelf = MemShelf::new(rt.alloc(), Vec::new(rt.alloc()));
