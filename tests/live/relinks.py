@@ -42,8 +42,8 @@ join
 SLEEPING = (HEAD % (1048576, 1048576)).replace('threads', 'writei c0 s0 n 01020304\nthreads') + RELINKS + 'writei c0 s0 b 0102030405060708\n' + RELINKS + 'start c1 s0\n' + RELINKS \
     + 'start c1 s0\nstatus c2 s1\n' + RELINKS + BEATS
 
-# Both are written and drained, so that both are in one state most of the time.
-DRAINING = HEAD % (1, 1) + 'writei c0 s0 n 01020304\nwritei c2 s1 n 05060708\ndrain c0 s0 b\ndrain c2 s1 b\n' + 8 * RELINKS + BEATS
+# Both are written, and a drain starts them, so that a card has beats left for it whenever it comes.
+DRAINING = HEAD % (1048576, 1048576) + 'writei c0 s0 n 01020304\nwritei c2 s1 n 05060708\ndrain c0 s0 b\ndrain c2 s1 b\n' + 8 * RELINKS + BEATS
 
 # Both are started, stopped and prepared by their clients.
 STARTING = HEAD % (1048576, 1048576) + ''.join(
