@@ -272,6 +272,7 @@ join
     assert!(rt; ends_a_line(written, b" start c0 s0 = ok RUNNING + start r16 0 yes done"));
     assert!(rt; ends_a_line(written, b" joint start r16 0 yes done"));
     assert!(rt; ends_a_line(written, b" go c1 0506 = frames 2 RUNNING"));
+    assert!(rt; !ends_a_line(written, b" go c1 = asleep PREPARED"));
     assert!(rt; !ends_a_line(written, b" go c1 = asleep RUNNING"));
     Ok(())
 }
