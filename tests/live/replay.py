@@ -18,7 +18,7 @@ sys.path.insert(0, os.path.join(os.path.dirname(os.path.abspath(__file__)), '..'
 import formats
 import rules
 from model import Ends, feed
-from rules import DrainWait, Refusal, Stream, Transfer, World, bytes_of
+from rules import DrainWait, Refusal, Stream, Transfer, World, answer, bytes_of
 from tables import CLOSED, MODELS, permit
 from wav import BITS_OF_FORMAT, Wav, write_wav
 
@@ -323,13 +323,6 @@ class Replay:
         told = '%s = %s %s' % (text, reply, self.stream.state)
         require(told == entry.text.split(' + ')[0], 'the rules give: %s', told)
 
-    def answer(self, act):
-        """The reply of an act, or its refusal as a reply."""
-        try:
-            return act()
-        except Refusal as refusal:
-            return 'err', refusal.name
-
     def card_event(self, text):
         """The next planned event of the card."""
         require(self.events and self.events.pop(0) == text, 'no such event is planned')
@@ -341,7 +334,7 @@ class Replay:
         """A call or an event of a line on the stream."""
         if self.stream.state == CLOSED and line.word != 'open':
             return 'err', 'ENXIO'
-        return self.answer(lambda: self.event(line))
+        return answer(lambda: self.event(line))
 
     def event(self, line):
         """What it does, and what it answers."""
@@ -395,7 +388,7 @@ class Replay:
         require(client in self.waiting, 'c%d has no call in progress', client)
         call = self.waiting[client]
         before = getattr(call, 'moved', 0)
-        reply = self.answer(call.go_on)
+        reply = answer(call.go_on)
         if not isinstance(reply, (Transfer, DrainWait)):
             del self.waiting[client], self.stream.sleepers[client]
         moved = self.moved_by(call, before) if isinstance(call, Transfer) else b''

@@ -14,7 +14,7 @@ from typing import NamedTuple
 
 import formats
 from refine import refined_text
-from rules import Told, World, card_give, refuse
+from rules import Told, World, answer, card_give, refuse
 from tables import (DEFAULT_LONG, GREATEST_FILE, GREATEST_LINES, GREATEST_SCRIPT, GREATEST_TAKEN, MODELS, Configuration,
                     accepted, silent_byte)
 from wav import BITS_OF_FORMAT, Wav, WavFault, read_wav, write_wav
@@ -136,7 +136,7 @@ class Run:
     def use_file(self, line):
         """A line that reads or stores a file."""
         act = feed if line.word == 'feed' else save
-        reply = self.world.answer(lambda: act(self.world, self.files, line.sub, *line.values))
+        reply = answer(lambda: act(self.world, self.files, line.sub, *line.values))
         return Told(reply, self.world.state_of(line.sub))
 
     def end_lines(self):

@@ -23,6 +23,14 @@ class Refusal(Exception):
         self.name = name
 
 
+def answer(act):
+    """The reply of an act, or its refusal as a reply."""
+    try:
+        return act()
+    except Refusal as refusal:
+        return 'err', refusal.name
+
+
 def refuse(wrong, name):
     """Refuses with this error where something is wrong."""
     if wrong:
@@ -881,13 +889,6 @@ class World:
         """The state that is shown for this substream."""
         return self.streams[number].state if number in self.streams else CLOSED
 
-    def answer(self, act):
-        """The reply of an act, or its refusal as a reply."""
-        try:
-            return act()
-        except Refusal as refusal:
-            return 'err', refusal.name
-
     def set_long(self, number):
         """Sets LONG_MAX, which every card declared later has."""
         refuse(bool(self.streams), 'EBUSY')
@@ -909,14 +910,14 @@ class World:
     def step(self, line):
         """Executes a line that names a call of a client, an event of a card or a session's word."""
         if line.word == 'long':
-            return Told(self.answer(lambda: self.set_long(*line.values)), None)
+            return Told(answer(lambda: self.set_long(*line.values)), None)
         if line.word == 'card':
-            return Told(self.answer(lambda: self.declare(line.sub, *line.values)), self.state_of(line.sub))
+            return Told(answer(lambda: self.declare(line.sub, *line.values)), self.state_of(line.sub))
         if line.word == 'go':
             return self.step_go(line.client)
         if line.client in self.calls:
             return Told(('busy', line.client), self.state_of(line.sub))
-        reply = self.answer(lambda: self.event(line))
+        reply = answer(lambda: self.event(line))
         if isinstance(reply, (Transfer, DrainWait)):
             reply = self.put_to_sleep(line.client, reply)
         return Told(reply, self.state_of(line.sub), self.wake())
@@ -939,7 +940,7 @@ class World:
         if client not in self.calls:
             return Told(('err', 'EINVAL'), None)
         call = self.calls[client]
-        reply = self.answer(call.go_on)
+        reply = answer(call.go_on)
         if reply is call:
             reply = self.put_to_sleep(client, call)
         else:
