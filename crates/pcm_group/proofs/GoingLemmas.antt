@@ -30,14 +30,14 @@ use Rattle.pcm_base.specs.declared.state.State.{State}
 use Rattle.pcm_base.specs.declared.state.State.TheVariants as state
 use Rattle.pcm_base.specs.declared.votes.Acted.{Acted}
 use Rattle.pcm_base.specs.model.Acts.{members_after, subs}
-use Rattle.pcm_base.specs.model.Events.{go, go_drain, go_on, go_task, go_transfer, left_by, length_of, others_than as others_waiting, page, waiting_of}
+use Rattle.pcm_base.specs.model.Events.{go, go_call, go_drain, go_on, go_task, go_transfer, go_transfer_in, left_by, length_of, others_than as others_waiting, page, waiting_of}
 use Rattle.pcm_base.specs.model.Group.{mark, marked, put_stream, stream_of}
 use Rattle.pcm_base.specs.model.Program.{Answer, Ends, Makes, Program, fails, says}
 use Rattle.pcm_base.specs.model.Replay.{Distinct, going_length, is_member, task_layout}
 use Rattle.pcm_base.specs.model.Sleep.{is_among}
 use Rattle.pcm_base.specs.model.Sound.{Sound, SoundAt, is_set_up, may_be_set_up}
 use Rattle.pcm_base.specs.model.Stream.{Stream, Waiting, Member as ModelMember, avail}
-use Rattle.pcm_base.specs.model.Transfer.{fits, frames_or}
+use Rattle.pcm_base.specs.model.Transfer.{fits}
 use Rattle.pcm_base.specs.model.Words.{is_closed, is_disconnected, is_suspended}
 use Rattle.pcm_laws.proofs.Marks.{put_stream-own}
 use Rattle.sleepers.specs.Clients.{AreApart, has_client, is_of, others_than}
@@ -50,7 +50,7 @@ use Rattle.group_trigger.specs.Votes.{IsActed}
 use Rattle.pcm_group.specs.declared.go.Fate.{Fate}
 use Rattle.pcm_group.specs.Bytes.{bytes_left}
 use Rattle.pcm_group.specs.Ended.{IsEndedBy, RunsTo, error_of}
-use Rattle.pcm_group.specs.Going.{comes_to, fate_in}
+use Rattle.pcm_group.specs.Going.{comes_to, fate_in, waits_or_goes}
 use Rattle.pcm_group.specs.Transfers.{AreBytesOf, IsTransferOf, bytes_with}
 use Rattle.pcm_group.specs.Waiting.{calls_of, is_free, is_free_but, is_free_for}
 use Rattle.pcm_group.specs.Built.{is_waiting_call}
@@ -64,31 +64,24 @@ use Rattle.pcm_group.proofs.WakeLemmas.{avail-page, none_waits, state-page}
 -- ---- what becomes of a transfer
 
 pub transfer_fate : (c : ClientId) (x : Xfer) (wanted : ℕ) (io : List ℕ) (s : Stream) → go_transfer c x wanted io s ≡ comes_to c x io s (fate_in s.state s.dir (nat_lt (avail s) wanted))
-transfer_fate c x wanted io s = by s.state s.dir (nat_lt (avail s) wanted)
+transfer_fate c x wanted io s = by s.state s.dir
   where
-    by : (t : State) (d : Dir) (b : Bool) → elim t as (λ _. Program) [
-      | state.Prepared ↦ cond b (says reply.Asleep s) (go_on c x io (left_by c s))
-      | state.Running ↦ cond b (says reply.Asleep s) (go_on c x io (left_by c s))
-      | state.Paused ↦ cond b (says reply.Asleep s) (go_on c x io (left_by c s))
-      | state.Suspended ↦ says (frames_or x.moved errno.Estrpipe) (left_by c s)
-      | state.Xrun ↦ says (frames_or x.moved errno.Epipe) (left_by c s)
-      | state.Draining ↦ elim d as (λ _. Program) [ dir.Playback ↦ says (frames_or x.moved errno.Epipe) (left_by c s) | dir.Capture ↦ go_on c x io (left_by c s) ]
-      | _ ↦ says (frames_or x.moved errno.Ebadfd) (left_by c s)
-    ] ≡ comes_to c x io s (fate_in t d b)
-    by state.Prepared d true = refl
-    by state.Prepared d false = refl
-    by state.Running d true = refl
-    by state.Running d false = refl
-    by state.Paused d true = refl
-    by state.Paused d false = refl
-    by state.Draining dir.Playback b = refl
-    by state.Draining dir.Capture b = refl
-    by state.Suspended d b = refl
-    by state.Xrun d b = refl
-    by state.Closed d b = refl
-    by state.Opened d b = refl
-    by state.Setup d b = refl
-    by state.Disconnected d b = refl
+    waits : (b : Bool) → cond b (says reply.Asleep s) (go_on c x io (left_by c s)) ≡ comes_to c x io s (waits_or_goes b)
+    waits true = refl
+    waits false = refl
+
+    by : (t : State) (d : Dir) → go_transfer_in t d c x wanted io s ≡ comes_to c x io s (fate_in t d (nat_lt (avail s) wanted))
+    by state.Prepared d = waits (nat_lt (avail s) wanted)
+    by state.Running d = waits (nat_lt (avail s) wanted)
+    by state.Paused d = waits (nat_lt (avail s) wanted)
+    by state.Draining dir.Playback = refl
+    by state.Draining dir.Capture = refl
+    by state.Suspended d = refl
+    by state.Xrun d = refl
+    by state.Closed d = refl
+    by state.Opened d = refl
+    by state.Setup d = refl
+    by state.Disconnected d = refl
 
 -- too few frames are available, by what a client sees
 fate_unset : (t : State) (d : Dir) (a b : Bool) → is_set_up t ≡ false → fate_in t d a ≡ fate_in t d b
@@ -125,20 +118,14 @@ pub transfer_fits : (s : Stream) (x : Xfer) → IsTransferOn s x → IsTransferO
 transfer_fits s x h = record { writing = h.writing; layout = h.layout; bytes = h.bytes }
 
 -- with its own bytes, with others, and where there is none
-by_task : ClientId → List ℕ → Stream → Option Task → Program
-by_task c io s o = elim o as (λ _. Program) [ None ↦ fails errno.Einval s | Some p ↦ cond (nat_eq (length io) (length_of p s)) (go_task c p io s) (fails errno.Einval s) ]
-
 pub goes_own : (c : ClientId) (io : List ℕ) (s : Stream) (p : Task) → waiting_of c s.sleepers ≡ Some p → nat_eq (length io) (length_of p s) ≡ true → go c io s ≡ go_task c p io s
-unfolding by_task
-goes_own c io s p is size = ap (by_task c io s) is ∙ ap (λ (b : Bool). cond b (go_task c p io s) (fails errno.Einval s)) size
+goes_own c io s p is size = ap (λ (o : Option Task). go_call o c io s) is ∙ ap (λ (b : Bool). cond b (go_task c p io s) (fails errno.Einval s)) size
 
 pub goes_other : (c : ClientId) (io : List ℕ) (s : Stream) (p : Task) → waiting_of c s.sleepers ≡ Some p → nat_eq (length io) (length_of p s) ≡ false → go c io s ≡ fails errno.Einval s
-unfolding by_task
-goes_other c io s p is size = ap (by_task c io s) is ∙ ap (λ (b : Bool). cond b (go_task c p io s) (fails errno.Einval s)) size
+goes_other c io s p is size = ap (λ (o : Option Task). go_call o c io s) is ∙ ap (λ (b : Bool). cond b (go_task c p io s) (fails errno.Einval s)) size
 
 pub goes_none : (c : ClientId) (io : List ℕ) (s : Stream) → waiting_of c s.sleepers ≡ None → go c io s ≡ fails errno.Einval s
-unfolding by_task
-goes_none c io s is = ap (by_task c io s) is
+goes_none c io s is = ap (λ (o : Option Task). go_call o c io s) is
 
 -- a transfer, by what it comes to
 pub goes_to : (c : ClientId) (x : Xfer) (wanted : ℕ) (io : List ℕ) (s : Stream) (p q : Fate) → waiting_of c s.sleepers ≡ Some (task.Transfer x wanted) → nat_eq (length io) ((x.moved + x.rest) * s.setup.frame_bytes) ≡ true

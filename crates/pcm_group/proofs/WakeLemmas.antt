@@ -18,9 +18,9 @@ use Rattle.pcm_base.specs.declared.sleeper.Task.{Task}
 use Rattle.pcm_base.specs.declared.sleeper.Task.TheVariants as task
 use Rattle.pcm_base.specs.declared.state.State.{State}
 use Rattle.pcm_base.specs.model.Acts.{drains}
-use Rattle.pcm_base.specs.model.Events.{page}
+use Rattle.pcm_base.specs.model.Events.{page, page_by}
 use Rattle.pcm_base.specs.model.Sleep.{group_drains, is_among, mask_of, may_wait, sleepers_that, wake_members, woken_in}
-use Rattle.pcm_base.specs.model.Stream.{Stream, Waiting, Member as ModelMember, avail, shown}
+use Rattle.pcm_base.specs.model.Stream.{Stream, Waiting, Member as ModelMember, avail}
 use Rattle.pcm_base.specs.model.Transfer.{fits}
 use Rattle.sleepers.specs.Clients.{AreApart}
 use Rattle.sleepers.specs.Marks.{AreMarks, IsModelCheck, waiting}
@@ -78,10 +78,7 @@ drains_all (y ∷ ms) (suc i) (x ∷ xs) h le k =
 -- ---- one member
 
 page_at : Option Config → Stream → Page
-page_at o s = elim o as (λ _. Page) [
-  | None ↦ record { state = s.state; hw = 0; appl = 0; avail = 0 }
-  | Some c ↦ record { state = s.state; hw = shown s s.at.hw; appl = shown s s.at.appl; avail = avail s }
-]
+page_at o s = page_by o s
 
 state-page_at : (o : Option Config) (s : Stream) → (page_at o s).state ≡ s.state
 unfolding page_at

@@ -28,7 +28,7 @@ use Rattle.pcm_base.specs.declared.state.State.{State}
 use Rattle.pcm_base.specs.declared.state.State.TheVariants as state
 use Rattle.pcm_base.specs.model.Acts.{table}
 use Rattle.pcm_base.specs.model.Allowed.{accepts, buffer_of}
-use Rattle.pcm_base.specs.model.Events.{closed, delay, drain, drain_now, event, forwarded, freed, go, go_drain, go_on, go_task, go_transfer, hands, if_held, is_busy, is_mapped_access, left_by, length_of, opens, page, plan_set, program, rewound, set_mappings, set_setup, set_sw, setup_of, unplug_alone, waiting_of, watch}
+use Rattle.pcm_base.specs.model.Events.{closed, delay, drain, drain_now, event, forwarded, freed, go, go_drain, go_on, go_task, go_transfer, hands, if_held, is_busy, is_mapped_access, left_by, length_of, opens, page, plan_set, program, rewound, set_mappings, set_setup, set_sw, setup_of, unplug_alone, waiting_of, watch, go_call, go_transfer_in}
 use Rattle.pcm_base.specs.model.Frame.{Frame}
 use Rattle.pcm_base.specs.model.PointerCalls.{on_by, sync_to}
 use Rattle.pcm_base.specs.model.Program.{Ends, Makes, Program, act_alone, after_found, fails, going_on, making, or_epipe, says, unless, updated_or_epipe, updating}
@@ -36,7 +36,7 @@ use Rattle.pcm_base.specs.model.Replay.{AtMost}
 use Rattle.pcm_base.specs.model.Software.{refuses_sw}
 use Rattle.pcm_base.specs.model.Standing.{put_at, standing_at}
 use Rattle.pcm_base.specs.model.Stream.{Stream, avail, is_bare, zero_frame}
-use Rattle.pcm_base.specs.model.Transfer.{after_moves, after_start, frames_by, frames_in, frames_or, is_whole, misfit, put_next, read, read_next, read_on, sleeping, start_reading, starting_halt, stuck, tells, waiting_for, write, write_from, write_on, write_plain}
+use Rattle.pcm_base.specs.model.Transfer.{after_moves, after_start, frames_by, frames_in, frames_or, is_whole, misfit, put_next, read, read_next, read_on, sleeping, start_reading, starting_halt, stuck, tells, waiting_for, write, write_from, write_on, write_plain, stuck_in}
 use Rattle.pcm_base.specs.model.Update.{update}
 use Rattle.pcm_base.specs.model.Words.{is_closed, is_disconnected, is_draining, is_paused, is_playback, is_prepared, is_running, is_suspended, when, ◌then◌}
 
@@ -82,10 +82,7 @@ AtMost-stuck c x fs r s = by (not x.writing && is_draining s.state) x.mode
     ends : Program
     ends = Makes (act.Stop state.Setup) s (λ o. tells (reply.Frames (x.moved + length fs)) x fs)
 
-    by : (b : Bool) (w : Mode) → AtMost 1 (cond b (Makes (act.Stop state.Setup) s (λ o. tells (reply.Frames (x.moved + length fs)) x fs)) (elim w as (λ _. Program) [
-      | mode.NonBlock ↦ tells (frames_or (x.moved + length fs) errno.Eagain) x fs s
-      | mode.Block ↦ tells reply.Asleep x fs (sleeping (waiting_for c x r (x.moved + length fs) (min r s.setup.sw.avail_min)) s)
-    ]))
+    by : (b : Bool) (w : Mode) → AtMost 1 (cond b (Makes (act.Stop state.Setup) s (λ o. tells (reply.Frames (x.moved + length fs)) x fs)) (stuck_in w c x fs r s))
     by true w = λ o t. tt
     by false mode.NonBlock = tt
     by false mode.Block = tt
@@ -172,15 +169,7 @@ AtMost-go_transfer c x wanted io s = by s.state s.dir
     may : AtMost 2 (if nat_lt (avail s) wanted then says reply.Asleep s else go_on c x io (left_by c s))
     may = AtMost-if 2 (nat_lt (avail s) wanted) (says reply.Asleep s) (go_on c x io (left_by c s)) tt (AtMost-go_on c x io (left_by c s))
 
-    by : (t : State) (d : Dir) → AtMost 2 (elim t as (λ _. Program) [
-      | state.Prepared ↦ if nat_lt (avail s) wanted then says reply.Asleep s else go_on c x io (left_by c s)
-      | state.Running ↦ if nat_lt (avail s) wanted then says reply.Asleep s else go_on c x io (left_by c s)
-      | state.Paused ↦ if nat_lt (avail s) wanted then says reply.Asleep s else go_on c x io (left_by c s)
-      | state.Suspended ↦ says (frames_or x.moved errno.Estrpipe) (left_by c s)
-      | state.Xrun ↦ says (frames_or x.moved errno.Epipe) (left_by c s)
-      | state.Draining ↦ elim d as (λ _. Program) [ dir.Playback ↦ says (frames_or x.moved errno.Epipe) (left_by c s) | dir.Capture ↦ go_on c x io (left_by c s) ]
-      | _ ↦ says (frames_or x.moved errno.Ebadfd) (left_by c s)
-    ])
+    by : (t : State) (d : Dir) → AtMost 2 (go_transfer_in t d c x wanted io s)
     by state.Prepared d = may
     by state.Running d = may
     by state.Paused d = may
@@ -205,7 +194,7 @@ AtMost-go_task c task.Drain io s = AtMost-if 2 (is_disconnected s.state) (fails 
 AtMost-go : (c : ClientId) (io : List ℕ) (s : Stream) → AtMost 2 (go c io s)
 AtMost-go c io s = by (waiting_of c s.sleepers)
   where
-    by : (k : Option Task) → AtMost 2 (elim k as (λ _. Program) [ None ↦ fails errno.Einval s | Some p ↦ if nat_eq (length io) (length_of p s) then go_task c p io s else fails errno.Einval s ])
+    by : (k : Option Task) → AtMost 2 (go_call k c io s)
     by None = tt
     by (Some p) = AtMost-if 2 (nat_eq (length io) (length_of p s)) (go_task c p io s) (fails errno.Einval s) (AtMost-go_task c p io s) tt
 

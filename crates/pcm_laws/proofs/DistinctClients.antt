@@ -18,10 +18,10 @@ use Rattle.pcm_base.specs.declared.state.State.{State}
 use Rattle.pcm_base.specs.declared.votes.Acted.{Acted}
 use Rattle.pcm_base.specs.model.Acts.{acted, after_all, members_after, subs, table}
 use Rattle.pcm_base.specs.model.Allowed.{accepts, buffer_of}
-use Rattle.pcm_base.specs.model.Events.{closed, delay, drain, drain_now, event, forwarded, freed, go, go_drain, go_on, go_task, go_transfer, hands, if_held, is_busy, is_mapped_access, left_by, length_of, opens, others_than, page, plan_set, program, rewound, set_mappings, set_setup, set_sw, setup_of, unplug_alone, waiting_of, watch}
+use Rattle.pcm_base.specs.model.Events.{closed, delay, drain, drain_now, event, forwarded, freed, go, go_drain, go_on, go_task, go_transfer, hands, if_held, is_busy, is_mapped_access, left_by, length_of, opens, others_than, page, plan_set, program, rewound, set_mappings, set_setup, set_sw, setup_of, unplug_alone, waiting_of, watch, go_call, go_transfer_in}
 use Rattle.pcm_base.specs.model.Frame.{Frame}
 use Rattle.pcm_base.specs.model.Group.{Run, group_step, mark, put_stream, run, run_event, stream_of}
-use Rattle.pcm_base.specs.model.Movement.{Movement, carried, carried_frames, given_by, move, taken_by, taken_bytes}
+use Rattle.pcm_base.specs.model.Movement.{Movement, carried, carried_frames, given_by, move, taken_by, taken_bytes, carried_by}
 use Rattle.pcm_base.specs.model.PointerCalls.{on_by, sync_to}
 use Rattle.pcm_base.specs.model.Program.{Ends, Makes, Program, act_alone, after_found, fails, going_on, making, or_epipe, says, unless, updated_or_epipe, updating}
 use Rattle.pcm_base.specs.model.Replay.{Part, is_member, joined, part_of}
@@ -29,7 +29,7 @@ use Rattle.pcm_base.specs.model.Sleep.{group_drains, wake_members}
 use Rattle.pcm_base.specs.model.Software.{refuses_sw}
 use Rattle.pcm_base.specs.model.Standing.{put_at, standing_at}
 use Rattle.pcm_base.specs.model.Stream.{Member, Stream, Waiting, avail, is_bare, zero_frame}
-use Rattle.pcm_base.specs.model.Transfer.{after_moves, after_start, frames_by, frames_in, frames_or, is_whole, misfit, put_next, read, read_next, read_on, sleeping, start_reading, starting_halt, stuck, tells, waiting_for, write, write_from, write_on, write_plain}
+use Rattle.pcm_base.specs.model.Transfer.{after_moves, after_start, frames_by, frames_in, frames_or, is_whole, misfit, put_next, read, read_next, read_on, sleeping, start_reading, starting_halt, stuck, tells, waiting_for, write, write_from, write_on, write_plain, stuck_in}
 use Rattle.pcm_base.specs.model.Update.{Refreshed, found, moved_up, settled, update}
 use Rattle.pcm_base.specs.model.Words.{is_closed, is_disconnected, is_draining, is_paused, is_playback, is_prepared, is_running, is_suspended, when, ◌then◌}
 use Rattle.pcm_base.specs.model.World.{is_go}
@@ -129,10 +129,7 @@ KeepsDistinct-updated_or_epipe s f d h = KeepsDistinct-updating s (or_epipe f) d
 KeepsDistinct-stuck : (c : ClientId) (x : Xfer) (fs : List Frame) (r : ℕ) (s : Stream) → IsFree c s.sleepers → KeepsDistinct (stuck c x fs r s)
 KeepsDistinct-stuck c x fs r s d = by (not x.writing && is_draining s.state) x.mode
   where
-    by : (b : Bool) (m : Mode) → KeepsDistinct (cond b (Makes (act.Stop state.Setup) s (λ o. tells (reply.Frames (x.moved + length fs)) x fs)) (elim m as (λ _. Program) [
-      | mode.NonBlock ↦ tells (frames_or (x.moved + length fs) errno.Eagain) x fs s
-      | mode.Block ↦ tells reply.Asleep x fs (sleeping (waiting_for c x r (x.moved + length fs) (min r s.setup.sw.avail_min)) s)
-    ]))
+    by : (b : Bool) (m : Mode) → KeepsDistinct (cond b (Makes (act.Stop state.Setup) s (λ o. tells (reply.Frames (x.moved + length fs)) x fs)) (stuck_in m c x fs r s))
     by true m = (d.distinct, λ o t e. distinct_as s t e d.distinct)
     by false mode.NonBlock = d.distinct
     by false mode.Block = distinct-append (waiting_for c x r (x.moved + length fs) (min r s.setup.sw.avail_min)) s.sleepers d.distinct d.free
@@ -221,15 +218,7 @@ KeepsDistinct-go_transfer c x wanted io s d = by s.state s.dir
     may : KeepsDistinct (if nat_lt (avail s) wanted then says reply.Asleep s else go_on c x io (left_by c s))
     may = KeepsDistinct-if (nat_lt (avail s) wanted) (says reply.Asleep s) (go_on c x io (left_by c s)) d (KeepsDistinct-go_on c x io (left_by c s) (free-others_than c s.sleepers d))
 
-    by : (t : State) (w : Dir) → KeepsDistinct (elim t as (λ _. Program) [
-      | state.Prepared ↦ if nat_lt (avail s) wanted then says reply.Asleep s else go_on c x io (left_by c s)
-      | state.Running ↦ if nat_lt (avail s) wanted then says reply.Asleep s else go_on c x io (left_by c s)
-      | state.Paused ↦ if nat_lt (avail s) wanted then says reply.Asleep s else go_on c x io (left_by c s)
-      | state.Suspended ↦ says (frames_or x.moved errno.Estrpipe) (left_by c s)
-      | state.Xrun ↦ says (frames_or x.moved errno.Epipe) (left_by c s)
-      | state.Draining ↦ elim w as (λ _. Program) [ dir.Playback ↦ says (frames_or x.moved errno.Epipe) (left_by c s) | dir.Capture ↦ go_on c x io (left_by c s) ]
-      | _ ↦ says (frames_or x.moved errno.Ebadfd) (left_by c s)
-    ])
+    by : (t : State) (w : Dir) → KeepsDistinct (go_transfer_in t w c x wanted io s)
     by state.Prepared w = may
     by state.Running w = may
     by state.Paused w = may
@@ -258,16 +247,13 @@ KeepsDistinct-go_task c task.Drain io s d =
 KeepsDistinct-go : (c : ClientId) (io : List ℕ) (s : Stream) → AreDistinct s → KeepsDistinct (go c io s)
 KeepsDistinct-go c io s d = by (waiting_of c s.sleepers)
   where
-    by : (q : Option Task) → KeepsDistinct (elim q as (λ _. Program) [ None ↦ fails errno.Einval s | Some p ↦ if nat_eq (length io) (length_of p s) then go_task c p io s else fails errno.Einval s ])
+    by : (q : Option Task) → KeepsDistinct (go_call q c io s)
     by None = d
     by (Some p) = KeepsDistinct-if (nat_eq (length io) (length_of p s)) (go_task c p io s) (fails errno.Einval s) (KeepsDistinct-go_task c p io s d) d
 
 -- the card's movement leaves the calls
 
-sleepers-carried : (n : ℕ) (s : Stream) (w : Dir) → (elim w as (λ _. Stream) [
-  | dir.Playback ↦ record s { card = record s.card { taken = s.card.taken ++ taken_by n s }; at = record s.at { card = s.at.card + n }; moved = s.moved + n }
-  | dir.Capture ↦ record s { card = record s.card { to_give = drop n s.card.to_give }; puts = put_at s.at.card (given_by n s) s.puts; at = record s.at { card = s.at.card + n }; moved = s.moved + n }
-]).sleepers ≡ s.sleepers
+sleepers-carried : (n : ℕ) (s : Stream) (w : Dir) → (carried_by w n s).sleepers ≡ s.sleepers
 sleepers-carried n s dir.Playback = refl
 sleepers-carried n s dir.Capture = refl
 

@@ -12,7 +12,7 @@ use Rattle.pcm_base.specs.declared.state.Errno.{Errno}
 use Rattle.pcm_base.specs.declared.state.Errno.TheVariants as errno
 use Rattle.pcm_base.specs.declared.state.State.{State}
 use Rattle.pcm_base.specs.declared.state.State.TheVariants as state
-use Rattle.pcm_base.specs.model.Acts.{done, drained, pre, stopped, table}
+use Rattle.pcm_base.specs.model.Acts.{done, drained, pre, stopped, table, resumed_to, drained_from, stopped_in}
 use Rattle.pcm_base.specs.model.Permit.{permit}
 use Rattle.pcm_base.specs.model.Sound.{IsConfigured, IsPlaced, may_be_set_up, is_stop, keeps, may_keep}
 use Rattle.pcm_base.specs.model.Stream.{Stream, all_at, avail, head_of}
@@ -142,7 +142,7 @@ IsConfigured-stopped c s u e f g h = by s.state h.state
     now : IsConfigured c (record s { state = u; kept = None; card = record s.card { runs = false } })
     now = IsConfigured-motion c s u false None e f g h
 
-    by : (t : State) → may_be_set_up t ≡ true → IsConfigured c (elim t as (λ _. Stream) [ state.Opened ↦ s | state.Closed ↦ s | state.Disconnected ↦ s | _ ↦ set_runs false (record s { state = u; kept = None }) ])
+    by : (t : State) → may_be_set_up t ≡ true → IsConfigured c (stopped_in t u s)
     by state.Closed q = h
     by state.Opened q = h
     by state.Setup q = now
@@ -182,7 +182,7 @@ IsConfigured-prepare c s h =
           filled = (let k : s.setup.boundary ≤ s.setup.boundary + s.setup.buffer = omega arith in k);
         }
 
-IsConfigured-resumed : (c : Config) (s : Stream) (k : Option State) → keeps state.Suspended k ≡ true → IsConfigured c s → IsConfigured c (elim k as (λ _. Stream) [ None ↦ s | Some t ↦ set_runs (runs_in s.dir t) (record s { state = t; kept = None }) ])
+IsConfigured-resumed : (c : Config) (s : Stream) (k : Option State) → keeps state.Suspended k ≡ true → IsConfigured c s → IsConfigured c (resumed_to k s)
 IsConfigured-resumed c s None e h = h
 IsConfigured-resumed c s (Some t) e h = by t e
   where
@@ -222,18 +222,7 @@ IsConfigured-drained c s h = by s.dir s.state refl refl
     written true e f = IsConfigured-fill c (set_runs true (set_state state.Draining s)) (IsConfigured-motion c s state.Draining true s.kept refl (at_way dir.Playback true state.Draining e refl) (kept_in state.Prepared state.Draining f) h)
     written false e f = IsConfigured-motion c s state.Setup s.card.runs s.kept refl (at_way dir.Playback s.card.runs state.Setup e (runs_now dir.Playback state.Prepared e f)) (kept_in state.Prepared state.Setup f) h
 
-    by : (d : Dir) (t : State) → s.dir ≡ d → s.state ≡ t → IsConfigured c (elim d as (λ _. Stream) [
-      | dir.Playback ↦ elim t as (λ _. Stream) [
-        | state.Prepared ↦ cond (nat_lt (avail s) s.setup.buffer) (fill (set_runs true (set_state state.Draining s))) (set_state state.Setup s)
-        | state.Running ↦ set_state state.Draining s
-        | state.Xrun ↦ set_state state.Setup s
-        | _ ↦ s
-      ]
-      | dir.Capture ↦ elim t as (λ _. Stream) [
-        | state.Running ↦ set_runs false (cond (nat_lt 0 (avail s)) (set_state state.Draining s) (set_state state.Setup s))
-        | _ ↦ s
-      ]
-    ])
+    by : (d : Dir) (t : State) → s.dir ≡ d → s.state ≡ t → IsConfigured c (drained_from d t s)
     by dir.Playback state.Prepared e f = written (nat_lt (avail s) s.setup.buffer) e f
     by dir.Playback state.Running e f = IsConfigured-motion c s state.Draining s.card.runs s.kept refl (at_way dir.Playback s.card.runs state.Draining e (runs_now dir.Playback state.Running e f)) (kept_in state.Running state.Draining f) h
     by dir.Playback state.Xrun e f = IsConfigured-motion c s state.Setup s.card.runs s.kept refl (at_way dir.Playback s.card.runs state.Setup e (runs_now dir.Playback state.Xrun e f)) (kept_in state.Xrun state.Setup f) h

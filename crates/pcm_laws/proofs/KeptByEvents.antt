@@ -23,11 +23,11 @@ use Rattle.pcm_base.specs.declared.state.Errno.{Errno}
 use Rattle.pcm_base.specs.declared.state.Errno.TheVariants as errno
 use Rattle.pcm_base.specs.declared.state.State.{State}
 use Rattle.pcm_base.specs.declared.state.State.TheVariants as state
-use Rattle.pcm_base.specs.model.Acts.{after, stopped, table}
+use Rattle.pcm_base.specs.model.Acts.{after, stopped, table, stopped_in}
 use Rattle.pcm_base.specs.model.Allowed.{accepts, buffer_of}
 use Rattle.pcm_base.specs.model.Events.{closed, delay, event, forwarded, freed, hands, if_held, is_busy, is_mapped_access, opens, page, plan_set, program, rewound, set_mappings, set_setup, set_sw, setup_of, unplug_alone, unplugged}
 use Rattle.pcm_base.specs.model.Frame.{Frame}
-use Rattle.pcm_base.specs.model.Movement.{Movement, carried, carried_frames, given_by, move, taken_by, taken_bytes}
+use Rattle.pcm_base.specs.model.Movement.{Movement, carried, carried_frames, given_by, move, taken_by, taken_bytes, carried_by}
 use Rattle.pcm_base.specs.model.Permit.{permit}
 use Rattle.pcm_base.specs.model.PointerCalls.{hw_avail, sync_to}
 use Rattle.pcm_base.specs.model.Program.{act_alone, fails, going_on, making, says, unless, updated_or_epipe}
@@ -201,7 +201,7 @@ Sound-runs s h = by s.setup.config h
 pub stands-stopped : (u : State) (s : Stream) → Sound s → (stopped u s).card.runs ≡ false
 stands-stopped u s h = by s.state (Sound-runs s h)
   where
-    by : (t : State) → s.card.runs ≡ runs_in s.dir t → (elim t as (λ _. Stream) [ state.Opened ↦ s | state.Closed ↦ s | state.Disconnected ↦ s | _ ↦ set_runs false (record s { state = u; kept = None }) ]).card.runs ≡ false
+    by : (t : State) → s.card.runs ≡ runs_in s.dir t → (stopped_in t u s).card.runs ≡ false
     by state.Closed e = e ∙ unset_stands s.dir state.Closed refl
     by state.Opened e = e ∙ unset_stands s.dir state.Opened refl
     by state.Disconnected e = e ∙ unset_stands s.dir state.Disconnected refl
@@ -234,13 +234,7 @@ moves_by n s runs late many =
     (cond many (record { reply = reply.Limit (taken_bytes n s); frames = []; stream = s })
     (record { reply = reply.Moved n; frames = carried_frames n s; stream = carried n s })))
 
-abbrev carried_by : ℕ → Stream → Dir → Stream
-carried_by n s d = elim d as (λ _. Stream) [
-  | dir.Playback ↦ record s { card = record s.card { taken = s.card.taken ++ taken_by n s }; at = record s.at { card = s.at.card + n }; moved = s.moved + n }
-  | dir.Capture ↦ record s { card = record s.card { to_give = drop n s.card.to_give }; puts = put_at s.at.card (given_by n s) s.puts; at = record s.at { card = s.at.card + n }; moved = s.moved + n }
-]
-
-setup_carried : (n : ℕ) (s : Stream) (d : Dir) → (carried_by n s d).setup ≡ s.setup
+setup_carried : (n : ℕ) (s : Stream) (d : Dir) → (carried_by d n s).setup ≡ s.setup
 setup_carried n s dir.Playback = refl
 setup_carried n s dir.Capture = refl
 

@@ -15,7 +15,7 @@ use Rattle.pcm_base.specs.declared.state.State.{State}
 use Rattle.pcm_base.specs.declared.state.State.TheVariants as state
 use Rattle.pcm_base.specs.model.Allowed.{accepts, buffer_of}
 use Rattle.pcm_base.specs.model.Frame.{Frame}
-use Rattle.pcm_base.specs.model.Movement.{carried, given_by, taken_by}
+use Rattle.pcm_base.specs.model.Movement.{carried, given_by, taken_by, carried_by}
 use Rattle.pcm_base.specs.model.PointerCalls.{back_by, hw_avail, on_by, sync_to}
 use Rattle.pcm_base.specs.model.Software.{refuses_sw}
 use Rattle.pcm_base.specs.model.Sound.{IsBare, IsConfigured, IsPlaced, IsShaped, Sound, SoundAt, may_be_set_up, keeps}
@@ -272,9 +272,6 @@ IsConfigured-carried c n s l h = by s.dir
         IsConfigured-at c s t (IsShaped-as c s t refl refl refl h.shaped)
         (record { reported = past; near = l; origin = h.placed.origin; written = h.placed.written; fewer = h.placed.fewer; filled = h.placed.filled }) refl refl refl refl h
 
-    by : (d : Dir) → IsConfigured c (elim d as (λ _. Stream) [
-      | dir.Playback ↦ record s { card = record s.card { taken = s.card.taken ++ taken_by n s }; at = record s.at { card = s.at.card + n }; moved = s.moved + n }
-      | dir.Capture ↦ record s { card = record s.card { to_give = drop n s.card.to_give }; puts = put_at s.at.card (given_by n s) s.puts; at = record s.at { card = s.at.card + n }; moved = s.moved + n }
-    ])
+    by : (d : Dir) → IsConfigured c (carried_by d n s)
     by dir.Playback = one
     by dir.Capture = two

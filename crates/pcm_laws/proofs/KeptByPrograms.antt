@@ -26,14 +26,14 @@ use Rattle.pcm_base.specs.declared.state.Errno.TheVariants as errno
 use Rattle.pcm_base.specs.declared.state.State.{State}
 use Rattle.pcm_base.specs.declared.state.State.TheVariants as state
 use Rattle.pcm_base.specs.model.Acts.{after, table}
-use Rattle.pcm_base.specs.model.Events.{drain, drain_now, go, go_drain, go_on, go_task, go_transfer, left_by, length_of, others_than, waiting_of, watch}
+use Rattle.pcm_base.specs.model.Events.{drain, drain_now, go, go_drain, go_on, go_task, go_transfer, left_by, length_of, others_than, waiting_of, watch, go_call, go_transfer_in}
 use Rattle.pcm_base.specs.model.Frame.{Frame}
 use Rattle.pcm_base.specs.model.PointerCalls.{back_by, hw_avail, on_by, sync_to}
 use Rattle.pcm_base.specs.model.Program.{Makes, Program, act_alone, after_found, fails, going_on, making, or_epipe, says, unless, updated_or_epipe, updating}
 use Rattle.pcm_base.specs.model.Sound.{IsBare, IsConfigured, IsPlaced, KeepsSound, Sound, is_stop}
 use Rattle.pcm_base.specs.model.Standing.{Put}
 use Rattle.pcm_base.specs.model.Stream.{Positions, Stream, Waiting, all_at, avail, head, head_of}
-use Rattle.pcm_base.specs.model.Transfer.{after_moves, after_start, frames_by, frames_or, is_filled, is_halt, is_whole, least, misfit, put_next, read, read_next, read_on, sleeping, start_reading, starting_halt, stuck, tells, waiting_for, write, write_from, write_on, write_plain}
+use Rattle.pcm_base.specs.model.Transfer.{after_moves, after_start, frames_by, frames_or, is_filled, is_halt, is_whole, least, misfit, put_next, read, read_next, read_on, sleeping, start_reading, starting_halt, stuck, tells, waiting_for, write, write_from, write_on, write_plain, stuck_in}
 use Rattle.pcm_base.specs.model.Update.{update}
 use Rattle.pcm_base.specs.model.Words.{is_disconnected, is_draining, is_paused, is_prepared, is_suspended, ◌then◌}
 use Rattle.pcm_laws.proofs.KeptByMoves.{Sound-as, IsShaped-as, IsConfigured-at, Sound-update, IsConfigured-back_by, IsConfigured-on_by, IsConfigured-put_next, IsConfigured-sync_to}
@@ -133,10 +133,7 @@ Sound-plan plan s h = Sound-as s (record s { card = record s.card { plan = plan 
 pub KeepsSound-stuck : (k : SubId) (c : ClientId) (x : Xfer) (fs : List Frame) (r : ℕ) (s : Stream) → Sound s → KeepsSound k (stuck c x fs r s)
 KeepsSound-stuck k c x fs r s h = by (not x.writing && is_draining s.state) x.mode
   where
-    by : (b : Bool) (w : Mode) → KeepsSound k (cond b (Makes (act.Stop state.Setup) s (λ o. tells (reply.Frames (x.moved + length fs)) x fs)) (elim w as (λ _. Program) [
-      | mode.NonBlock ↦ tells (frames_or (x.moved + length fs) errno.Eagain) x fs s
-      | mode.Block ↦ tells reply.Asleep x fs (sleeping (waiting_for c x r (x.moved + length fs) (min r s.setup.sw.avail_min)) s)
-    ]))
+    by : (b : Bool) (w : Mode) → KeepsSound k (cond b (Makes (act.Stop state.Setup) s (λ o. tells (reply.Frames (x.moved + length fs)) x fs)) (stuck_in w c x fs r s))
     by true w = (h, refl, λ v o q. Sound-after k (act.Stop state.Setup) v o s refl q h)
     by false mode.NonBlock = h
     by false mode.Block = Sound-sleepers (s.sleepers ++ waiting_for c x r (x.moved + length fs) (min r s.setup.sw.avail_min) ∷ []) s h
@@ -248,15 +245,7 @@ KeepsSound-go_transfer k c x wanted io s h = by s.state s.dir
     may : KeepsSound k (if nat_lt (avail s) wanted then says reply.Asleep s else go_on c x io (left_by c s))
     may = KeepsSound-if k (nat_lt (avail s) wanted) (says reply.Asleep s) (go_on c x io (left_by c s)) (λ _. h) (λ _. KeepsSound-go_on k c x io (left_by c s) (Sound-left_by c s h))
 
-    by : (t : State) (d : Dir) → KeepsSound k (elim t as (λ _. Program) [
-      | state.Prepared ↦ if nat_lt (avail s) wanted then says reply.Asleep s else go_on c x io (left_by c s)
-      | state.Running ↦ if nat_lt (avail s) wanted then says reply.Asleep s else go_on c x io (left_by c s)
-      | state.Paused ↦ if nat_lt (avail s) wanted then says reply.Asleep s else go_on c x io (left_by c s)
-      | state.Suspended ↦ says (frames_or x.moved errno.Estrpipe) (left_by c s)
-      | state.Xrun ↦ says (frames_or x.moved errno.Epipe) (left_by c s)
-      | state.Draining ↦ elim d as (λ _. Program) [ dir.Playback ↦ says (frames_or x.moved errno.Epipe) (left_by c s) | dir.Capture ↦ go_on c x io (left_by c s) ]
-      | _ ↦ says (frames_or x.moved errno.Ebadfd) (left_by c s)
-    ])
+    by : (t : State) (d : Dir) → KeepsSound k (go_transfer_in t d c x wanted io s)
     by state.Prepared d = may
     by state.Running d = may
     by state.Paused d = may
@@ -282,6 +271,6 @@ KeepsSound-go_task k c task.Drain io s h = KeepsSound-if k (is_disconnected s.st
 pub KeepsSound-go : (k : SubId) (c : ClientId) (io : List ℕ) (s : Stream) → Sound s → KeepsSound k (go c io s)
 KeepsSound-go k c io s h = by (waiting_of c s.sleepers)
   where
-    by : (q : Option Task) → KeepsSound k (elim q as (λ _. Program) [ None ↦ fails errno.Einval s | Some p ↦ if nat_eq (length io) (length_of p s) then go_task c p io s else fails errno.Einval s ])
+    by : (q : Option Task) → KeepsSound k (go_call q c io s)
     by None = h
     by (Some p) = KeepsSound-if k (nat_eq (length io) (length_of p s)) (go_task c p io s) (fails errno.Einval s) (λ _. KeepsSound-go_task k c p io s h) (λ _. h)

@@ -15,7 +15,7 @@ use Rattle.pcm_base.specs.declared.state.Dir.TheVariants as dir
 use Rattle.pcm_base.specs.declared.state.Errno.TheVariants as errno
 use Rattle.pcm_base.specs.declared.state.State.{State}
 use Rattle.pcm_base.specs.declared.state.State.TheVariants as state
-use Rattle.pcm_base.specs.model.Acts.{after, asked, asks, consulted, done, pre, refuses_unopened, table, was_asked}
+use Rattle.pcm_base.specs.model.Acts.{after, asked, asks, consulted, done, pre, refuses_unopened, table, was_asked, drained_from, stopped_in}
 use Rattle.pcm_base.specs.model.Permit.{permit}
 use Rattle.pcm_base.specs.model.Replay.{Fits}
 use Rattle.pcm_base.specs.model.Sound.{IsBare, Sound, is_set_up, is_stop, may_keep}
@@ -56,7 +56,7 @@ prepares_from first d state.Suspended h = refl
 prepares_from true d state.Disconnected h = absurd (cc)
 prepares_from false d state.Disconnected h = absurd (cc)
 
-stopped_bare : (u : State) (s : Stream) (t : State) → is_set_up t ≡ false → elim t as (λ _. Stream) [ state.Opened ↦ s | state.Closed ↦ s | state.Disconnected ↦ s | _ ↦ set_runs false (record s { state = u; kept = None }) ] ≡ s
+stopped_bare : (u : State) (s : Stream) (t : State) → is_set_up t ≡ false → stopped_in t u s ≡ s
 stopped_bare u s state.Closed h = refl
 stopped_bare u s state.Opened h = refl
 stopped_bare u s state.Setup h = absurd (cc)
@@ -68,18 +68,7 @@ stopped_bare u s state.Paused h = absurd (cc)
 stopped_bare u s state.Suspended h = absurd (cc)
 stopped_bare u s state.Disconnected h = refl
 
-drained_bare : (s : Stream) (d : Dir) (t : State) → is_set_up t ≡ false → elim d as (λ _. Stream) [
-  | dir.Playback ↦ elim t as (λ _. Stream) [
-    | state.Prepared ↦ cond (nat_lt (avail s) s.setup.buffer) (fill (set_runs true (set_state state.Draining s))) (set_state state.Setup s)
-    | state.Running ↦ set_state state.Draining s
-    | state.Xrun ↦ set_state state.Setup s
-    | _ ↦ s
-  ]
-  | dir.Capture ↦ elim t as (λ _. Stream) [
-    | state.Running ↦ set_runs false (cond (nat_lt 0 (avail s)) (set_state state.Draining s) (set_state state.Setup s))
-    | _ ↦ s
-  ]
-] ≡ s
+drained_bare : (s : Stream) (d : Dir) (t : State) → is_set_up t ≡ false → drained_from d t s ≡ s
 drained_bare s dir.Playback state.Closed h = refl
 drained_bare s dir.Playback state.Opened h = refl
 drained_bare s dir.Playback state.Setup h = absurd (cc)

@@ -11,7 +11,7 @@ use Rattle.pcm_base.specs.declared.state.Dir.{Dir}
 use Rattle.pcm_base.specs.declared.state.Dir.TheVariants as dir
 use Rattle.pcm_base.specs.declared.state.State.{State}
 use Rattle.pcm_base.specs.declared.state.State.TheVariants as state
-use Rattle.pcm_base.specs.model.Acts.{after, asked, asks, consulted, done, was_asked}
+use Rattle.pcm_base.specs.model.Acts.{after, asked, asks, consulted, done, was_asked, resumed_to, drained_from, stopped_in}
 use Rattle.pcm_base.specs.model.Stream.{Positions, Setup, Stream, Waiting, all_at, avail}
 use Rattle.pcm_base.specs.model.Update.{fill, set_runs, set_state}
 use Rattle.pcm_base.specs.model.Words.{runs_in}
@@ -35,7 +35,7 @@ begins : (A : Type 0) (f : Stream → A) → IsLeft A f → (t : State) (s : Str
 begins A f l t s = l.fill (set_runs true (set_state t s)) ∙ moves A f l t s.kept true s
 
 stops : (A : Type 0) (f : Stream → A) → IsLeft A f → (u : State) (s : Stream) (t : State)
-    → f (elim t as (λ _. Stream) [ state.Opened ↦ s | state.Closed ↦ s | state.Disconnected ↦ s | _ ↦ set_runs false (record s { state = u; kept = None }) ]) ≡ f s
+    → f (stopped_in t u s) ≡ f s
 stops A f l u s state.Closed = refl
 stops A f l u s state.Opened = refl
 stops A f l u s state.Setup = moves A f l u None false s
@@ -47,7 +47,7 @@ stops A f l u s state.Paused = moves A f l u None false s
 stops A f l u s state.Suspended = moves A f l u None false s
 stops A f l u s state.Disconnected = refl
 
-resumes : (A : Type 0) (f : Stream → A) → IsLeft A f → (s : Stream) (k : Option State) → f (elim k as (λ _. Stream) [ None ↦ s | Some t ↦ set_runs (runs_in s.dir t) (record s { state = t; kept = None }) ]) ≡ f s
+resumes : (A : Type 0) (f : Stream → A) → IsLeft A f → (s : Stream) (k : Option State) → f (resumed_to k s) ≡ f s
 resumes A f l s None = refl
 resumes A f l s (Some t) = moves A f l t None (runs_in s.dir t) s
 
@@ -55,18 +55,7 @@ one_of : (A : Type 0) (f : Stream → A) (b : Bool) (s t u : Stream) → f s ≡
 one_of A f true s t u e g = e
 one_of A f false s t u e g = g
 
-drains_as : (A : Type 0) (f : Stream → A) → IsLeft A f → (s : Stream) (d : Dir) (t : State) → f (elim d as (λ _. Stream) [
-  | dir.Playback ↦ elim t as (λ _. Stream) [
-    | state.Prepared ↦ cond (nat_lt (avail s) s.setup.buffer) (fill (set_runs true (set_state state.Draining s))) (set_state state.Setup s)
-    | state.Running ↦ set_state state.Draining s
-    | state.Xrun ↦ set_state state.Setup s
-    | _ ↦ s
-  ]
-  | dir.Capture ↦ elim t as (λ _. Stream) [
-    | state.Running ↦ set_runs false (cond (nat_lt 0 (avail s)) (set_state state.Draining s) (set_state state.Setup s))
-    | _ ↦ s
-  ]
-]) ≡ f s
+drains_as : (A : Type 0) (f : Stream → A) → IsLeft A f → (s : Stream) (d : Dir) (t : State) → f (drained_from d t s) ≡ f s
 drains_as A f l s dir.Playback state.Closed = refl
 drains_as A f l s dir.Playback state.Opened = refl
 drains_as A f l s dir.Playback state.Setup = refl

@@ -23,7 +23,7 @@ use Rattle.pcm_base.specs.declared.state.Dir.TheVariants as dir
 use Rattle.pcm_base.specs.declared.state.Errno.TheVariants as errno
 use Rattle.pcm_base.specs.declared.state.State.{State}
 use Rattle.pcm_base.specs.declared.state.State.TheVariants as state
-use Rattle.pcm_base.specs.model.Acts.{after, asked, asks, consulted, done, drained, pre, ran, resumed, starts_drain, stopped, table, trips}
+use Rattle.pcm_base.specs.model.Acts.{after, asked, asks, consulted, done, drained, drained_from, pre, ran, resumed, resumed_to, starts_drain, stopped, stopped_in, table, trips}
 use Rattle.pcm_base.specs.model.Permit.{permit}
 use Rattle.pcm_base.specs.model.Sound.{IsConfigured, IsPlaced, Sound, SoundAt, is_set_up, is_stop}
 use Rattle.pcm_base.specs.model.Stream.{Stream, all_at, avail}
@@ -134,34 +134,14 @@ prepare-runs : (s : Stream) (first : Bool) → Sound s → pre s (act.Prepare fi
 prepare-runs s true h n = sym (only-stops s.card.runs trigger.Stop refl)
 prepare-runs s false h n = sym (Sound-runs s h ∙ prepare-stands s.dir s.state n)
 
--- a stop, a resume and a drain, by what decides them
-abbrev stop_in : State → State → Stream → Stream
-stop_in t u s = elim u as (λ _. Stream) [ state.Opened ↦ s | state.Closed ↦ s | state.Disconnected ↦ s | _ ↦ set_runs false (record s { state = t; kept = None }) ]
-
-abbrev resume_in : Option State → Stream → Stream
-resume_in k s = elim k as (λ _. Stream) [ None ↦ s | Some t ↦ set_runs (runs_in s.dir t) (record s { state = t; kept = None }) ]
-
+-- a drain, by the test that decides it
 abbrev drain_start : Bool → Stream → Stream
 drain_start b s = cond b (fill (set_runs true (set_state state.Draining s))) (set_state state.Setup s)
 
 abbrev drain_rest : Bool → Stream → Stream
 drain_rest b s = set_runs false (cond b (set_state state.Draining s) (set_state state.Setup s))
 
-abbrev drain_in : Dir → State → Stream → Stream
-drain_in d t s = elim d as (λ _. Stream) [
-  | dir.Playback ↦ elim t as (λ _. Stream) [
-    | state.Prepared ↦ drain_start (nat_lt (avail s) s.setup.buffer) s
-    | state.Running ↦ set_state state.Draining s
-    | state.Xrun ↦ set_state state.Setup s
-    | _ ↦ s
-  ]
-  | dir.Capture ↦ elim t as (λ _. Stream) [
-    | state.Running ↦ drain_rest (nat_lt 0 (avail s)) s
-    | _ ↦ s
-  ]
-]
-
-stop-runs : (t u : State) (s : Stream) → s.card.runs ≡ runs_in s.dir u → (stop_in t u s).card.runs ≡ false
+stop-runs : (t u : State) (s : Stream) → s.card.runs ≡ runs_in s.dir u → (stopped_in u t s).card.runs ≡ false
 stop-runs t state.Closed s h = h
 stop-runs t state.Opened s h = h
 stop-runs t state.Setup s h = refl
@@ -173,7 +153,7 @@ stop-runs t state.Paused s h = refl
 stop-runs t state.Suspended s h = refl
 stop-runs t state.Disconnected s h = h
 
-resume-runs : (k : Option State) (s : Stream) → s.card.runs ≡ false → (resume_in k s).card.runs ≡ runs_by (only_if (ran s.dir k) trigger.Resume) s.card.runs
+resume-runs : (k : Option State) (s : Stream) → s.card.runs ≡ false → (resumed_to k s).card.runs ≡ runs_by (only_if (ran s.dir k) trigger.Resume) s.card.runs
 resume-runs None s h = refl
 resume-runs (Some t) s h = only-starts (runs_in s.dir t) s.card.runs h
 
@@ -186,7 +166,7 @@ drain-start-runs true s = refl
 drain-start-runs false s = refl
 
 drain-runs : (d : Dir) (t : State) (s : Stream)
-    → (drain_in d t s).card.runs ≡ runs_by (drain_trigger ((is_playback d && is_prepared t) && nat_lt (avail s) s.setup.buffer) (cond (is_playback d) false (is_running t))) s.card.runs
+    → (drained_from d t s).card.runs ≡ runs_by (drain_trigger ((is_playback d && is_prepared t) && nat_lt (avail s) s.setup.buffer) (cond (is_playback d) false (is_running t))) s.card.runs
 drain-runs dir.Playback state.Closed s = refl
 drain-runs dir.Playback state.Opened s = refl
 drain-runs dir.Playback state.Setup s = refl
@@ -314,7 +294,7 @@ Shows-asked {C} {g} a sub s h = by (asks s a)
 
 -- acts leave the fault plan
 
-stop-plan : (t u : State) (s : Stream) → (stop_in t u s).card.plan ≡ s.card.plan
+stop-plan : (t u : State) (s : Stream) → (stopped_in u t s).card.plan ≡ s.card.plan
 stop-plan t state.Closed s = refl
 stop-plan t state.Opened s = refl
 stop-plan t state.Setup s = refl
@@ -326,7 +306,7 @@ stop-plan t state.Paused s = refl
 stop-plan t state.Suspended s = refl
 stop-plan t state.Disconnected s = refl
 
-resume-plan : (k : Option State) (s : Stream) → (resume_in k s).card.plan ≡ s.card.plan
+resume-plan : (k : Option State) (s : Stream) → (resumed_to k s).card.plan ≡ s.card.plan
 resume-plan None s = refl
 resume-plan (Some t) s = refl
 
@@ -338,7 +318,7 @@ drain-rest-plan : (b : Bool) (s : Stream) → (drain_rest b s).card.plan ≡ s.c
 drain-rest-plan true s = refl
 drain-rest-plan false s = refl
 
-drain-plan : (d : Dir) (t : State) (s : Stream) → (drain_in d t s).card.plan ≡ s.card.plan
+drain-plan : (d : Dir) (t : State) (s : Stream) → (drained_from d t s).card.plan ≡ s.card.plan
 drain-plan dir.Playback state.Closed s = refl
 drain-plan dir.Playback state.Opened s = refl
 drain-plan dir.Playback state.Setup s = refl
@@ -462,7 +442,7 @@ lacks-else s r h high =
 
 -- ---- what a stop, a resume and a prepare show
 
-stop-set_up : (t u : State) (s : Stream) → (u ≡ state.Closed → ⊥) → (u ≡ state.Opened → ⊥) → (u ≡ state.Disconnected → ⊥) → turned s t None false s.card.plan ≡ stop_in t u s
+stop-set_up : (t u : State) (s : Stream) → (u ≡ state.Closed → ⊥) → (u ≡ state.Opened → ⊥) → (u ≡ state.Disconnected → ⊥) → turned s t None false s.card.plan ≡ stopped_in u t s
 stop-set_up t state.Closed s e f g = absurd (e refl)
 stop-set_up t state.Opened s e f g = absurd (f refl)
 stop-set_up t state.Setup s e f g = refl
@@ -477,12 +457,12 @@ stop-set_up t state.Disconnected s e f g = absurd (g refl)
 pub Shows-stopped : {C : Type 0} {g : Ghosts C} (a b : Substream C g) (s : Stream) (t : State) → IsLike a b → b.state ≡ t → b.kept ≡ None
     → (a.state ≡ state.Closed → ⊥) → (a.state ≡ state.Opened → ⊥) → (a.state ≡ state.Disconnected → ⊥) → Shows a s → Shows b (stopped t s)
 Shows-stopped {C} {g} a b s t like et ek closed opened gone h =
-    let same : turned s t None false s.card.plan ≡ stopped t s = stop-set_up t a.state s closed opened gone ∙ ap (λ (u : State). stop_in t u s) h.state in
+    let same : turned s t None false s.card.plan ≡ stopped t s = stop-set_up t a.state s closed opened gone ∙ ap (λ (u : State). stopped_in u t s) h.state in
     subst (λ (x : Stream). Shows {C = C} {g = g} b x) same (Shows-turned a b s t None false s.card.plan like et ek h)
 
 pub Shows-resumed : {C : Type 0} {g : Ghosts C} (a b : Substream C g) (s : Stream) (t : State) → IsLike a b → a.kept ≡ Some t → b.state ≡ t → b.kept ≡ None → Shows a s → Shows b (resumed s)
 Shows-resumed {C} {g} a b s t like e et ek h =
-    subst (λ (k : Option State). Shows {C = C} {g = g} b (resume_in k s)) (sym e ∙ h.kept) (Shows-turned a b s t None (runs_in s.dir t) s.card.plan like et ek h)
+    subst (λ (k : Option State). Shows {C = C} {g = g} b (resumed_to k s)) (sym e ∙ h.kept) (Shows-turned a b s t None (runs_in s.dir t) s.card.plan like et ek h)
 
 -- two substreams of one direction
 pub record IsOneWay {C : Type 0} {g : Ghosts C} (a b : Substream C g) : Type 0 where
@@ -538,8 +518,8 @@ Shows-prepared {C} {g} a b s r u ed el facts et ek er eu shape runs h =
 -- ---- drains
 
 -- what a drain comes to, in a direction and a state
-drain-at : (s : Stream) (d : Dir) (t : State) → s.dir ≡ d → s.state ≡ t → drain_in d t s ≡ drained s
-drain-at s d t e f = sym (ap (λ (x : Dir). drain_in x s.state s) e ∙ ap (λ (y : State). drain_in d y s) f)
+drain-at : (s : Stream) (d : Dir) (t : State) → s.dir ≡ d → s.state ≡ t → drained_from d t s ≡ drained s
+drain-at s d t e f = sym (ap (λ (x : Dir). drained_from x s.state s) e ∙ ap (λ (y : State). drained_from d y s) f)
 
 -- a playback stream that has started to drain, before its silence
 abbrev pub draining : Stream → Stream

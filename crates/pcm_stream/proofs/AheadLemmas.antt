@@ -20,7 +20,7 @@ use Rattle.pcm_base.specs.declared.state.Dir.{Dir}
 use Rattle.pcm_base.specs.declared.state.Dir.TheVariants as dir
 use Rattle.pcm_base.specs.declared.state.State.{State}
 use Rattle.pcm_base.specs.declared.state.State.TheVariants as state
-use Rattle.pcm_base.specs.model.Acts.{after, asked, asks, consulted, done, was_asked}
+use Rattle.pcm_base.specs.model.Acts.{after, asked, asks, consulted, done, drained_from, resumed_to, stopped_in, was_asked}
 use Rattle.pcm_base.specs.model.Frame.{Frame}
 use Rattle.pcm_base.specs.model.Movement.{Movement, move, carried, carried_frames, taken_bytes}
 use Rattle.pcm_base.specs.model.PointerCalls.{hw_avail}
@@ -248,14 +248,14 @@ stays-starts : (b p : ℕ) (z : Frame) (t : State) (s : Stream) → Sound (fill 
 stays-starts b p z t s sound h = stays-fill b p z (set_runs true (set_state t s)) sound (same b p z s (set_runs true (set_state t s)) (like s) refl refl h)
 
 stays-stops : (b p : ℕ) (z : Frame) (u : State) (s : Stream) (t : State) → Stays b p z s
-    → Stays b p z (elim t as (λ _. Stream) [ state.Opened ↦ s | state.Closed ↦ s | state.Disconnected ↦ s | _ ↦ set_runs false (record s { state = u; kept = None }) ])
+    → Stays b p z (stopped_in t u s)
 stays-stops b p z u s state.Closed h = h
 stays-stops b p z u s state.Opened h = h
 stays-stops b p z u s state.Disconnected h = h
 stays-stops b p z u s _ h = same b p z s (set_runs false (record s { state = u; kept = None })) (like s) refl refl h
 
 stays-resumes : (b p : ℕ) (z : Frame) (s : Stream) (k : Option State) → Stays b p z s
-    → Stays b p z (elim k as (λ _. Stream) [ None ↦ s | Some t ↦ set_runs (runs_in s.dir t) (record s { state = t; kept = None }) ])
+    → Stays b p z (resumed_to k s)
 stays-resumes b p z s None h = h
 stays-resumes b p z s (Some t) h = same b p z s (set_runs (runs_in s.dir t) (record s { state = t; kept = None })) (like s) refl refl h
 
@@ -264,18 +264,7 @@ stays-one_of b p z true s t e g = e refl
 stays-one_of b p z false s t e g = g refl
 
 abbrev pub drained_by : Stream → Dir → State → Stream
-drained_by s d t = elim d as (λ _. Stream) [
-  | dir.Playback ↦ elim t as (λ _. Stream) [
-    | state.Prepared ↦ cond (nat_lt (avail s) s.setup.buffer) (fill (set_runs true (set_state state.Draining s))) (set_state state.Setup s)
-    | state.Running ↦ set_state state.Draining s
-    | state.Xrun ↦ set_state state.Setup s
-    | _ ↦ s
-  ]
-  | dir.Capture ↦ elim t as (λ _. Stream) [
-    | state.Running ↦ set_runs false (cond (nat_lt 0 (avail s)) (set_state state.Draining s) (set_state state.Setup s))
-    | _ ↦ s
-  ]
-]
+drained_by s d t = drained_from d t s
 
 stays-drains : (b p : ℕ) (z : Frame) (s : Stream) (d : Dir) (t : State) → Sound (drained_by s d t) → Stays b p z s → Stays b p z (drained_by s d t)
 stays-drains b p z s dir.Playback state.Prepared sound h = by (nat_lt (avail s) s.setup.buffer) sound

@@ -17,7 +17,7 @@ use Rattle.pcm_base.specs.declared.state.State.TheVariants as state
 use Rattle.pcm_base.specs.model.Acts.{table}
 use Rattle.pcm_base.specs.model.Events.{event, hands, opens, page, program}
 use Rattle.pcm_base.specs.model.Frame.{Frame}
-use Rattle.pcm_base.specs.model.Movement.{Movement, move, carried, carried_frames, taken_by, taken_bytes}
+use Rattle.pcm_base.specs.model.Movement.{Movement, move, carried, carried_frames, taken_by, taken_bytes, frames_taken}
 use Rattle.pcm_base.specs.model.PointerCalls.{sync_to}
 use Rattle.pcm_base.specs.model.Program.{Answer, Ends, Makes, Program, fails, says, unless}
 use Rattle.pcm_base.specs.model.Replay.{Part, Plays}
@@ -132,7 +132,7 @@ moves n s true true much h = absurd (cc)
 moves n s true false true h = absurd (cc)
 moves n s true false false h = (refl, refl)
 
-carried-taken : (n : ℕ) (s : Stream) (d : Dir) → d ≡ dir.Playback → elim d as (λ _. List Frame) [ dir.Playback ↦ taken_by n s | dir.Capture ↦ [] ] ≡ taken_by n s
+carried-taken : (n : ℕ) (s : Stream) (d : Dir) → d ≡ dir.Playback → frames_taken d n s ≡ taken_by n s
 carried-taken n s dir.Playback e = refl
 carried-taken n s dir.Capture e = absurd (cc)
 

@@ -30,13 +30,13 @@ use Rattle.pcm_base.specs.declared.state.Errno.TheVariants as errno
 use Rattle.pcm_base.specs.declared.state.State.{State}
 use Rattle.pcm_base.specs.declared.state.State.TheVariants as state
 use Rattle.pcm_base.specs.model.Acts.{after, table}
-use Rattle.pcm_base.specs.model.Events.{event, go, go_drain, go_on, go_task, go_transfer, left_by, length_of, opens, program, waiting_of}
+use Rattle.pcm_base.specs.model.Events.{event, go, go_call, go_drain, go_on, go_task, go_transfer, go_transfer_in, left_by, length_of, opens, program, waiting_of}
 use Rattle.pcm_base.specs.model.Frame.{Frame}
 use Rattle.pcm_base.specs.model.Program.{Answer, Ends, Makes, Program, after_found, fails, or_epipe, says, unless, updated_or_epipe}
 use Rattle.pcm_base.specs.model.Replay.{Fits, Part, Plays, joined}
 use Rattle.pcm_base.specs.model.Sound.{Sound}
 use Rattle.pcm_base.specs.model.Stream.{Stream, Setup, avail, zero_frame}
-use Rattle.pcm_base.specs.model.Transfer.{after_moves, after_start, frames_by, frames_or, is_whole, misfit, put_next, read_on, sleeping, starting_halt, stuck, tells, waiting_for, write, write_from, write_on, write_plain}
+use Rattle.pcm_base.specs.model.Transfer.{after_moves, after_start, frames_by, is_whole, misfit, put_next, read_on, sleeping, starting_halt, stuck, stuck_in, tells, waiting_for, write, write_from, write_on, write_plain}
 use Rattle.pcm_base.specs.model.Update.{Refreshed, found, moved_up, settled, update}
 use Rattle.pcm_base.specs.model.Words.{is_closed, is_disconnected, is_draining, is_suspended}
 use Rattle.pcm_laws.proofs.KeptByMoves.{Sound-update}
@@ -152,10 +152,7 @@ sleeps-wrote b p z c x fs rest m wanted s y h low high =
 stuck-wrote : (b p : ℕ) (z : Frame) (k : SubId) (c : ClientId) (x : Xfer) (fs : List Frame) (r : ℕ) (s : Stream) → x.writing ≡ true → Wrote b p z fs s → Writes b p z k (stuck c x fs r s)
 stuck-wrote b p z k c x fs r s y h = by (not x.writing && is_draining s.state) (ap (λ t. not t && is_draining s.state) y) x.mode
   where
-    by : (q : Bool) → q ≡ false → (m : Mode) → Writes b p z k (cond q (Makes (act.Stop state.Setup) s (λ o. tells (reply.Frames (x.moved + length fs)) x fs)) (elim m as (λ _. Program) [
-      | mode.NonBlock ↦ tells (frames_or (x.moved + length fs) errno.Eagain) x fs s
-      | mode.Block ↦ tells reply.Asleep x fs (sleeping (waiting_for c x r (x.moved + length fs) (min r s.setup.sw.avail_min)) s)
-    ]))
+    by : (q : Bool) → q ≡ false → (m : Mode) → Writes b p z k (cond q (Makes (act.Stop state.Setup) s (λ o. tells (reply.Frames (x.moved + length fs)) x fs)) (stuck_in m c x fs r s))
     by true e m = absurd (cc)
     by false e mode.NonBlock = h
     by false e mode.Block = sleeps-wrote b p z c x fs r (x.moved + length fs) (min r s.setup.sw.avail_min) s y h
@@ -226,15 +223,7 @@ transfer-wrote b p z k c x wanted io s y sound f = by s.state s.dir
     gone : Wrote b p z [] (left_by c s)
     gone = none-wrote b p z (left_by c s)
 
-    by : (t : State) (v : Dir) → Writes b p z k (elim t as (λ _. Program) [
-      | state.Prepared ↦ if nat_lt (avail s) wanted then says reply.Asleep s else go_on c x io (left_by c s)
-      | state.Running ↦ if nat_lt (avail s) wanted then says reply.Asleep s else go_on c x io (left_by c s)
-      | state.Paused ↦ if nat_lt (avail s) wanted then says reply.Asleep s else go_on c x io (left_by c s)
-      | state.Suspended ↦ says (frames_or x.moved errno.Estrpipe) (left_by c s)
-      | state.Xrun ↦ says (frames_or x.moved errno.Epipe) (left_by c s)
-      | state.Draining ↦ elim v as (λ _. Program) [ dir.Playback ↦ says (frames_or x.moved errno.Epipe) (left_by c s) | dir.Capture ↦ go_on c x io (left_by c s) ]
-      | _ ↦ says (frames_or x.moved errno.Ebadfd) (left_by c s)
-    ])
+    by : (t : State) (v : Dir) → Writes b p z k (go_transfer_in t v c x wanted io s)
     by state.Prepared v = may
     by state.Running v = may
     by state.Paused v = may
@@ -260,7 +249,7 @@ task-wrote b p z k c task.Drain io s y sound f = if-wrote b p z k (is_disconnect
 go-wrote : (b p : ℕ) (z : Frame) (k : SubId) (c : ClientId) (io : List ℕ) (s : Stream) → Sound s → Facts b z s → Writes b p z k (go c io s)
 go-wrote b p z k c io s sound f = by (waiting_of c s.sleepers) refl
   where
-    by : (q : Option Task) → waiting_of c s.sleepers ≡ q → Writes b p z k (elim q as (λ _. Program) [ None ↦ fails errno.Einval s | Some p ↦ if nat_eq (length io) (length_of p s) then go_task c p io s else fails errno.Einval s ])
+    by : (q : Option Task) → waiting_of c s.sleepers ≡ q → Writes b p z k (go_call q c io s)
     by None e = none-wrote b p z s
     by (Some q) e = if-wrote b p z k (nat_eq (length io) (length_of q s)) (go_task c q io s) (fails errno.Einval s)
         (λ _. task-wrote b p z k c q io s (λ x wanted i. fit-of dir.Playback c s.sleepers x wanted f.fit (e ∙ ap Some i)) sound f) (λ _. none-wrote b p z s)

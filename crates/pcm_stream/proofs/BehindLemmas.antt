@@ -15,7 +15,7 @@ use Rattle.pcm_base.specs.declared.state.Dir.{Dir}
 use Rattle.pcm_base.specs.declared.state.Dir.TheVariants as dir
 use Rattle.pcm_base.specs.declared.state.State.{State}
 use Rattle.pcm_base.specs.declared.state.State.TheVariants as state
-use Rattle.pcm_base.specs.model.Acts.{after, asked, asks, consulted, done, was_asked}
+use Rattle.pcm_base.specs.model.Acts.{after, asked, asks, consulted, done, drained_from, resumed_to, stopped_in, was_asked}
 use Rattle.pcm_base.specs.model.Frame.{Frame}
 use Rattle.pcm_base.specs.model.Movement.{Movement, move, given_by, carried, carried_frames, taken_bytes}
 use Rattle.pcm_base.specs.model.Standing.{Put, put_at}
@@ -78,14 +78,14 @@ starts : (l b : ℕ) (before : List Put) (t : State) (s : Stream) → Recorded l
 starts l b before t s h = recorded-fill l b before (set_runs true (set_state t s)) (again l b before s (set_runs true (set_state t s)) refl refl refl refl refl h)
 
 stops : (l b : ℕ) (before : List Put) (u : State) (s : Stream) (t : State) → Recorded l b before s
-    → Recorded l b before (elim t as (λ _. Stream) [ state.Opened ↦ s | state.Closed ↦ s | state.Disconnected ↦ s | _ ↦ set_runs false (record s { state = u; kept = None }) ])
+    → Recorded l b before (stopped_in t u s)
 stops l b before u s state.Closed h = h
 stops l b before u s state.Opened h = h
 stops l b before u s state.Disconnected h = h
 stops l b before u s _ h = again l b before s (set_runs false (record s { state = u; kept = None })) refl refl refl refl refl h
 
 resumes : (l b : ℕ) (before : List Put) (s : Stream) (k : Option State) → Recorded l b before s
-    → Recorded l b before (elim k as (λ _. Stream) [ None ↦ s | Some t ↦ set_runs (runs_in s.dir t) (record s { state = t; kept = None }) ])
+    → Recorded l b before (resumed_to k s)
 resumes l b before s None h = h
 resumes l b before s (Some t) h = again l b before s (set_runs (runs_in s.dir t) (record s { state = t; kept = None })) refl refl refl refl refl h
 
@@ -93,18 +93,7 @@ one_of : (l b : ℕ) (before : List Put) (c : Bool) (s t : Stream) → Recorded 
 one_of l b before true s t e g = e
 one_of l b before false s t e g = g
 
-drains-as : (l b : ℕ) (before : List Put) (s : Stream) (d : Dir) (t : State) → Recorded l b before s → Recorded l b before (elim d as (λ _. Stream) [
-  | dir.Playback ↦ elim t as (λ _. Stream) [
-    | state.Prepared ↦ cond (nat_lt (avail s) s.setup.buffer) (fill (set_runs true (set_state state.Draining s))) (set_state state.Setup s)
-    | state.Running ↦ set_state state.Draining s
-    | state.Xrun ↦ set_state state.Setup s
-    | _ ↦ s
-  ]
-  | dir.Capture ↦ elim t as (λ _. Stream) [
-    | state.Running ↦ set_runs false (cond (nat_lt 0 (avail s)) (set_state state.Draining s) (set_state state.Setup s))
-    | _ ↦ s
-  ]
-])
+drains-as : (l b : ℕ) (before : List Put) (s : Stream) (d : Dir) (t : State) → Recorded l b before s → Recorded l b before (drained_from d t s)
 drains-as l b before s dir.Playback state.Prepared h =
     one_of l b before (nat_lt (avail s) s.setup.buffer) (fill (set_runs true (set_state state.Draining s))) (set_state state.Setup s) (starts l b before state.Draining s h) (again l b before s (set_state state.Setup s) refl refl refl refl refl h)
 drains-as l b before s dir.Playback state.Running h = again l b before s (set_state state.Draining s) refl refl refl refl refl h

@@ -30,8 +30,8 @@ use Rattle.pcm_base.specs.declared.state.Errno.{Errno}
 use Rattle.pcm_base.specs.declared.state.Errno.TheVariants as errno
 use Rattle.pcm_base.specs.declared.state.State.{State}
 use Rattle.pcm_base.specs.declared.state.State.TheVariants as state
-use Rattle.pcm_base.specs.model.Acts.{after, table}
-use Rattle.pcm_base.specs.model.Events.{event, go, go_drain, go_on, go_task, go_transfer, left_by, length_of, opens, program, waiting_of}
+use Rattle.pcm_base.specs.model.Acts.{after, stopped_in, table}
+use Rattle.pcm_base.specs.model.Events.{event, go, go_call, go_drain, go_on, go_task, go_transfer, go_transfer_in, left_by, length_of, opens, program, waiting_of}
 use Rattle.pcm_base.specs.model.Frame.{Frame}
 use Rattle.pcm_base.specs.model.Permit.{permit}
 use Rattle.pcm_base.specs.model.PointerCalls.{on_by}
@@ -40,8 +40,8 @@ use Rattle.pcm_base.specs.model.Replay.{Fits, Part, Plays, joined}
 use Rattle.pcm_base.specs.model.Sound.{Sound}
 use Rattle.pcm_base.specs.model.Standing.{Put, put_at, standing, standing_at}
 use Rattle.pcm_base.specs.model.Stream.{Stream, all_at, avail, zero_frame}
-use Rattle.pcm_base.specs.model.Transfer.{after_moves, frames_by, frames_or, misfit, read, read_next, read_on, sleeping, start_reading, stuck, tells, waiting_for, write_on}
-use Rattle.pcm_base.specs.model.Update.{set_runs, update}
+use Rattle.pcm_base.specs.model.Transfer.{after_moves, frames_by, misfit, read, read_next, read_on, start_reading, stuck, stuck_in, tells, write_on}
+use Rattle.pcm_base.specs.model.Update.{update}
 use Rattle.pcm_base.specs.model.Words.{is_closed, is_disconnected, is_draining, is_prepared, is_suspended}
 use Rattle.pcm_laws.proofs.Puts.{get_or-standing_at, length-standing_at, put_at-append, put_at-onto, standing-put_at_hit}
 use Rattle.pcm_stream.specs.KeepingUp.{Goes, GoesOn, IsPutSince, IsReached, Moment, NonePrepares, Own, Passes, Prepares, Runs, first_of, frame_at, frame_passed, is_prepare, reads}
@@ -98,7 +98,7 @@ if-read k true p q f g = f refl
 if-read k false p q f g = g refl
 
 -- a stop leaves what is read
-stops-read : (fs : List Frame) (u : State) (s : Stream) (t : State) → IsRead fs s → IsRead fs (elim t as (λ _. Stream) [ state.Opened ↦ s | state.Closed ↦ s | state.Disconnected ↦ s | _ ↦ set_runs false (record s { state = u; kept = None }) ])
+stops-read : (fs : List Frame) (u : State) (s : Stream) (t : State) → IsRead fs s → IsRead fs (stopped_in t u s)
 stops-read fs u s state.Closed h = h
 stops-read fs u s state.Opened h = h
 stops-read fs u s state.Disconnected h = h
@@ -115,10 +115,7 @@ stop-read fs u vote.Unasked (outcome.Failed k) s h = h
 stuck-read : (k : SubId) (c : ClientId) (x : Xfer) (fs : List Frame) (r : ℕ) (s : Stream) → IsRead fs s → Reads k (stuck c x fs r s)
 stuck-read k c x fs r s h = by (not x.writing && is_draining s.state) x.mode
   where
-    by : (b : Bool) (m : Mode) → Reads k (cond b (Makes (act.Stop state.Setup) s (λ o. tells (reply.Frames (x.moved + length fs)) x fs)) (elim m as (λ _. Program) [
-      | mode.NonBlock ↦ tells (frames_or (x.moved + length fs) errno.Eagain) x fs s
-      | mode.Block ↦ tells reply.Asleep x fs (sleeping (waiting_for c x r (x.moved + length fs) (min r s.setup.sw.avail_min)) s)
-    ]))
+    by : (b : Bool) (m : Mode) → Reads k (cond b (Makes (act.Stop state.Setup) s (λ o. tells (reply.Frames (x.moved + length fs)) x fs)) (stuck_in m c x fs r s))
     by true m = (no_stop state.Setup, λ v o q. stop-read fs state.Setup v o s h)
     by false mode.NonBlock = h
     by false mode.Block = h
@@ -171,15 +168,7 @@ transfer-read k c x wanted io s y = by s.state s.dir
     gone : IsRead [] (left_by c s)
     gone = none-read (left_by c s)
 
-    by : (t : State) (v : Dir) → Reads k (elim t as (λ _. Program) [
-      | state.Prepared ↦ if nat_lt (avail s) wanted then says reply.Asleep s else go_on c x io (left_by c s)
-      | state.Running ↦ if nat_lt (avail s) wanted then says reply.Asleep s else go_on c x io (left_by c s)
-      | state.Paused ↦ if nat_lt (avail s) wanted then says reply.Asleep s else go_on c x io (left_by c s)
-      | state.Suspended ↦ says (frames_or x.moved errno.Estrpipe) (left_by c s)
-      | state.Xrun ↦ says (frames_or x.moved errno.Epipe) (left_by c s)
-      | state.Draining ↦ elim v as (λ _. Program) [ dir.Playback ↦ says (frames_or x.moved errno.Epipe) (left_by c s) | dir.Capture ↦ go_on c x io (left_by c s) ]
-      | _ ↦ says (frames_or x.moved errno.Ebadfd) (left_by c s)
-    ])
+    by : (t : State) (v : Dir) → Reads k (go_transfer_in t v c x wanted io s)
     by state.Prepared v = may
     by state.Running v = may
     by state.Paused v = may
@@ -205,7 +194,7 @@ task-read k c task.Drain io s y = if-read k (is_disconnected s.state) (fails err
 go-read : (k : SubId) (c : ClientId) (io : List ℕ) (s : Stream) → AllFit dir.Capture s.sleepers → Reads k (go c io s)
 go-read k c io s h = by (waiting_of c s.sleepers) refl
   where
-    by : (q : Option Task) → waiting_of c s.sleepers ≡ q → Reads k (elim q as (λ _. Program) [ None ↦ fails errno.Einval s | Some p ↦ if nat_eq (length io) (length_of p s) then go_task c p io s else fails errno.Einval s ])
+    by : (q : Option Task) → waiting_of c s.sleepers ≡ q → Reads k (go_call q c io s)
     by None e = none-read s
     by (Some p) e = if-read k (nat_eq (length io) (length_of p s)) (go_task c p io s) (fails errno.Einval s)
         (λ _. task-read k c p io s (λ x wanted q. fit-of dir.Capture c s.sleepers x wanted h (e ∙ ap Some q))) (λ _. none-read s)
@@ -311,15 +300,7 @@ read-none k c l m n s i =
 transfer-none : (k : SubId) (c : ClientId) (x : Xfer) (wanted : ℕ) (io : List ℕ) (s : Stream) → is_idle s.state s.kept ≡ true → Always NoFrames k (go_transfer c x wanted io s)
 transfer-none k c x wanted io s i = by s.state s.dir s.kept i
   where
-    by : (t : State) (v : Dir) (q : Option State) → is_idle t q ≡ true → Always NoFrames k (elim t as (λ _. Program) [
-      | state.Prepared ↦ if nat_lt (avail s) wanted then says reply.Asleep s else go_on c x io (left_by c s)
-      | state.Running ↦ if nat_lt (avail s) wanted then says reply.Asleep s else go_on c x io (left_by c s)
-      | state.Paused ↦ if nat_lt (avail s) wanted then says reply.Asleep s else go_on c x io (left_by c s)
-      | state.Suspended ↦ says (frames_or x.moved errno.Estrpipe) (left_by c s)
-      | state.Xrun ↦ says (frames_or x.moved errno.Epipe) (left_by c s)
-      | state.Draining ↦ elim v as (λ _. Program) [ dir.Playback ↦ says (frames_or x.moved errno.Epipe) (left_by c s) | dir.Capture ↦ go_on c x io (left_by c s) ]
-      | _ ↦ says (frames_or x.moved errno.Ebadfd) (left_by c s)
-    ])
+    by : (t : State) (v : Dir) (q : Option State) → is_idle t q ≡ true → Always NoFrames k (go_transfer_in t v c x wanted io s)
     by state.Prepared v q h = absurd (cc)
     by state.Running v q h = absurd (cc)
     by state.Paused v q h = absurd (cc)
@@ -343,7 +324,7 @@ task-none k c task.Drain io s i = if-none k (is_disconnected s.state) (fails err
 go-none : (k : SubId) (c : ClientId) (io : List ℕ) (s : Stream) → is_idle s.state s.kept ≡ true → Always NoFrames k (go c io s)
 go-none k c io s i = by (waiting_of c s.sleepers)
   where
-    by : (q : Option Task) → Always NoFrames k (elim q as (λ _. Program) [ None ↦ fails errno.Einval s | Some p ↦ if nat_eq (length io) (length_of p s) then go_task c p io s else fails errno.Einval s ])
+    by : (q : Option Task) → Always NoFrames k (go_call q c io s)
     by None = refl
     by (Some p) = if-none k (nat_eq (length io) (length_of p s)) (go_task c p io s) (fails errno.Einval s) (task-none k c p io s i) refl
 

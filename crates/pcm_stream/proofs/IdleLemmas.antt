@@ -22,7 +22,7 @@ use Rattle.pcm_base.specs.declared.state.Dir.TheVariants as dir
 use Rattle.pcm_base.specs.declared.state.Errno.TheVariants as errno
 use Rattle.pcm_base.specs.declared.state.State.{State}
 use Rattle.pcm_base.specs.declared.state.State.TheVariants as state
-use Rattle.pcm_base.specs.model.Acts.{after, asked, asks, consulted, done, pre, table, was_asked}
+use Rattle.pcm_base.specs.model.Acts.{after, asked, asks, consulted, done, pre, resumed_to, stopped_in, table, was_asked}
 use Rattle.pcm_base.specs.model.Allowed.{accepts, buffer_of}
 use Rattle.pcm_base.specs.model.Events.{closed, event, freed, hands, if_held, is_busy, opens, page, program, set_setup, setup_of}
 use Rattle.pcm_base.specs.model.Movement.{Movement, move, carried, carried_frames, taken_bytes}
@@ -34,7 +34,7 @@ use Rattle.pcm_base.specs.model.Sound.{Sound, is_stop}
 use Rattle.pcm_base.specs.model.Standing.{put_at}
 use Rattle.pcm_base.specs.model.Stream.{Stream, avail}
 use Rattle.pcm_base.specs.model.Transfer.{frames_in, is_whole, waiting_for}
-use Rattle.pcm_base.specs.model.Update.{Refreshed, found, moved_up, set_runs, settled, update}
+use Rattle.pcm_base.specs.model.Update.{Refreshed, found, moved_up, settled, update}
 use Rattle.pcm_base.specs.model.Words.{is_closed, is_playback, runs_in, when, ◌then◌}
 use Rattle.pcm_laws.proofs.KeptByActs.{first_none, then_none}
 use Rattle.pcm_stream.specs.KeepingUp.{NonePrepares, is_prepare}
@@ -159,7 +159,7 @@ resumed-from v state.Suspended t e h = back t h
 resumed-from v state.Disconnected t e h = absurd (cc)
 
 resumes-idle : (d : Dir) (s : Stream) (k : Option State) → permit kind.Resume s.state s.dir ≡ None → is_idle s.state k ≡ true → IsIdle d s
-    → IsIdle d (elim k as (λ _. Stream) [ None ↦ s | Some t ↦ set_runs (runs_in s.dir t) (record s { state = t; kept = None }) ])
+    → IsIdle d (resumed_to k s)
 resumes-idle d s None e i h = h
 resumes-idle d s (Some t) e i h = record { way = h.way; idle = resumed-from s.dir s.state t e i; fit = h.fit }
 
@@ -169,7 +169,7 @@ stop-idle state.Xrun h = refl
 stop-idle _ h = absurd (cc)
 
 stops-idle : (d : Dir) (u : State) (s : Stream) (t : State) → is_stop (act.Stop u) ≡ true → IsIdle d s
-    → IsIdle d (elim t as (λ _. Stream) [ state.Opened ↦ s | state.Closed ↦ s | state.Disconnected ↦ s | _ ↦ set_runs false (record s { state = u; kept = None }) ])
+    → IsIdle d (stopped_in t u s)
 stops-idle d u s state.Closed i h = h
 stops-idle d u s state.Opened i h = h
 stops-idle d u s state.Disconnected i h = h

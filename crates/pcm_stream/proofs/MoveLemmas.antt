@@ -8,7 +8,7 @@ use Rattle.pcm_base.specs.declared.state.Dir.TheVariants as dir
 use Rattle.pcm_base.specs.model.Frame.{Frame, bytes_of}
 use Rattle.pcm_base.specs.model.Standing.{Put, same_slot, standing, standing_at, put_at}
 use Rattle.pcm_base.specs.model.Stream.{Stream}
-use Rattle.pcm_base.specs.model.Movement.{Movement, move, carried, carried_frames, taken_by, given_by, taken_bytes}
+use Rattle.pcm_base.specs.model.Movement.{Movement, bytes_taken, carried, carried_by, carried_frames, given_by, move, taken_by, taken_bytes}
 use Rattle.pcm_stream.specs.Wide.{AreWide, PutsAreWide}
 
 abbrev idle : Stream → Movement
@@ -63,16 +63,16 @@ abbrev pub captured : ℕ → Stream → Stream
 captured n s = record s { card = record s.card { to_give = drop n s.card.to_give }; puts = put_at s.at.card (given_by n s) s.puts; at = record s.at { card = s.at.card + n }; moved = s.moved + n }
 
 pub carried-playback : (n : ℕ) (s : Stream) → s.dir ≡ dir.Playback → carried n s ≡ played n s
-carried-playback n s e = ap (λ (d : Dir). elim d as (λ _. Stream) [ dir.Playback ↦ played n s | dir.Capture ↦ captured n s ]) e
+carried-playback n s e = ap (λ (d : Dir). carried_by d n s) e
 
 pub carried-capture : (n : ℕ) (s : Stream) → s.dir ≡ dir.Capture → carried n s ≡ captured n s
-carried-capture n s e = ap (λ (d : Dir). elim d as (λ _. Stream) [ dir.Playback ↦ played n s | dir.Capture ↦ captured n s ]) e
+carried-capture n s e = ap (λ (d : Dir). carried_by d n s) e
 
 pub taken_bytes-playback : (n : ℕ) (s : Stream) → s.dir ≡ dir.Playback → taken_bytes n s ≡ (length s.card.taken + n) * s.setup.frame_bytes
-taken_bytes-playback n s e = ap (λ (d : Dir). elim d as (λ _. ℕ) [ dir.Playback ↦ (length s.card.taken + n) * s.setup.frame_bytes | dir.Capture ↦ 0 ]) e
+taken_bytes-playback n s e = ap (λ (d : Dir). bytes_taken d n s) e
 
 pub taken_bytes-capture : (n : ℕ) (s : Stream) → s.dir ≡ dir.Capture → taken_bytes n s ≡ 0
-taken_bytes-capture n s e = ap (λ (d : Dir). elim d as (λ _. ℕ) [ dir.Playback ↦ (length s.card.taken + n) * s.setup.frame_bytes | dir.Capture ↦ 0 ]) e
+taken_bytes-capture n s e = ap (λ (d : Dir). bytes_taken d n s) e
 
 -- ---- widths
 

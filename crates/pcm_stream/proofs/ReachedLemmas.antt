@@ -23,7 +23,7 @@ use Rattle.pcm_base.specs.declared.state.State.TheVariants as state
 use Rattle.pcm_base.specs.model.Acts.{after, table}
 use Rattle.pcm_base.specs.model.Allowed.{accepts, buffer_of}
 use Rattle.pcm_base.specs.model.Events.{closed, event, freed, hands, if_held, is_busy, opens, page, program, set_setup, setup_of}
-use Rattle.pcm_base.specs.model.Movement.{Movement, move, carried, carried_frames, taken_bytes}
+use Rattle.pcm_base.specs.model.Movement.{Movement, carried, carried_by, carried_frames, move, taken_bytes}
 use Rattle.pcm_base.specs.model.PointerCalls.{sync_to}
 use Rattle.pcm_base.specs.model.Program.{Answer, Ends, Makes, Program, fails, going_on, says}
 use Rattle.pcm_base.specs.model.Replay.{Fits, Part, Plays, joined}
@@ -67,10 +67,7 @@ way-after d a v o s h = let q = IsSameBesideActs-after a v o s in way-as d s (af
 way-carried : (d : Dir) (n : ℕ) (s : Stream) → HasWay d s → HasWay d (carried n s)
 way-carried d n s h = by s.dir
   where
-    by : (v : Dir) → HasWay d (elim v as (λ _. Stream) [
-      | dir.Playback ↦ record s { card = record s.card { taken = (carried n (record s { dir = dir.Playback })).card.taken }; at = record s.at { card = s.at.card + n }; moved = s.moved + n }
-      | dir.Capture ↦ record s { card = record s.card { to_give = (carried n (record s { dir = dir.Capture })).card.to_give }; puts = (carried n (record s { dir = dir.Capture })).puts; at = record s.at { card = s.at.card + n }; moved = s.moved + n }
-    ])
+    by : (v : Dir) → HasWay d (carried_by v n s)
     by dir.Playback = record { way = h.way; fit = h.fit }
     by dir.Capture = record { way = h.way; fit = h.fit }
 

@@ -14,7 +14,7 @@ use Rattle.pcm_base.specs.CardFacts.{consults, plan_after, moved_on}
 use Rattle.pcm_base.specs.model.Standing.{put_at}
 use Rattle.pcm_base.specs.model.Stream.{Stream, avail, shown}
 use Rattle.pcm_base.specs.model.Update.{Refreshed, update, moved_up, found, found_in, lap, reported, settled, fill, fill_start, fill_count_at, silent_frame}
-use Rattle.pcm_base.specs.model.Events.{page}
+use Rattle.pcm_base.specs.model.Events.{page, page_by}
 use Rattle.pcm_base.specs.declared.state.State.TheVariants as state
 use Rattle.pcm_base.specs.model.Sound.{Sound, SoundAt, IsConfigured, IsPlaced, is_set_up}
 use Rattle.pcm_laws.proofs.KeptByMoves.{Sound-as, IsConfigured-settled, IsPlaced-lap}
@@ -27,16 +27,10 @@ pub sound_configured : (c : Config) (s : Stream) → s.setup.config ≡ Some c �
 sound_configured c s e h = subst (λ (o : Option Config). SoundAt o s) (sym e) h
 
 pub page-configured : (c : Config) (s : Stream) → s.setup.config ≡ Some c → page s ≡ record { state = s.state; hw = shown s s.at.hw; appl = shown s s.at.appl; avail = avail s }
-page-configured c s e = ap (λ (o : Option Config). elim o as (λ _. Page) [
-  | None ↦ record { state = s.state; hw = 0; appl = 0; avail = 0 }
-  | Some c ↦ record { state = s.state; hw = shown s s.at.hw; appl = shown s s.at.appl; avail = avail s }
-]) e
+page-configured c s e = ap (λ (o : Option Config). page_by o s) e
 
 pub page-unset : (s : Stream) → s.setup.config ≡ None → page s ≡ record { state = s.state; hw = 0; appl = 0; avail = 0 }
-page-unset s e = ap (λ (o : Option Config). elim o as (λ _. Page) [
-  | None ↦ record { state = s.state; hw = 0; appl = 0; avail = 0 }
-  | Some c ↦ record { state = s.state; hw = shown s s.at.hw; appl = shown s s.at.appl; avail = avail s }
-]) e
+page-unset s e = ap (λ (o : Option Config). page_by o s) e
 
 -- pages with the same parts
 abbrev pub same_parts : State → ℕ → ℕ → ℕ → State → ℕ → ℕ → ℕ → Type 0

@@ -29,7 +29,7 @@ use Rattle.pcm_base.specs.declared.state.Errno.TheVariants as errno
 use Rattle.pcm_base.specs.declared.state.State.{State}
 use Rattle.pcm_base.specs.declared.state.State.TheVariants as state
 use Rattle.pcm_base.specs.model.Acts.{after, table}
-use Rattle.pcm_base.specs.model.Events.{delay, drain, drain_now, event, forwarded, go, go_drain, go_on, go_task, go_transfer, hands, is_mapped_access, left_by, length_of, opens, page, plan_set, program, rewound, set_mappings, set_sw, unplug_alone, unplugged, waiting_of, watch}
+use Rattle.pcm_base.specs.model.Events.{delay, drain, drain_now, event, forwarded, go, go_call, go_drain, go_on, go_task, go_transfer, go_transfer_in, hands, is_mapped_access, left_by, length_of, opens, page, plan_set, program, rewound, set_mappings, set_sw, unplug_alone, unplugged, waiting_of, watch}
 use Rattle.pcm_base.specs.model.Frame.{Frame}
 use Rattle.pcm_base.specs.model.Movement.{move}
 use Rattle.pcm_base.specs.model.PointerCalls.{back_by, hw_avail, on_by}
@@ -39,7 +39,7 @@ use Rattle.pcm_base.specs.model.Software.{refuses_sw}
 use Rattle.pcm_base.specs.model.Sound.{Sound, is_stop}
 use Rattle.pcm_base.specs.model.Standing.{standing_at}
 use Rattle.pcm_base.specs.model.Stream.{Stream, avail, is_bare, zero_frame}
-use Rattle.pcm_base.specs.model.Transfer.{after_moves, after_start, beq, fits, frames_by, frames_in, frames_or, is_filled, is_halt, is_whole, least, misfit, put_next, read, read_next, read_on, sleeping, start_reading, starting_halt, stuck, tells, waiting_for, write, write_from, write_on, write_plain}
+use Rattle.pcm_base.specs.model.Transfer.{after_moves, after_start, beq, fits, frames_by, frames_in, is_filled, is_halt, is_whole, least, misfit, put_next, read, read_next, read_on, sleeping, start_reading, starting_halt, stuck, stuck_in, tells, waiting_for, write, write_from, write_on, write_plain}
 use Rattle.pcm_base.specs.model.Update.{update}
 use Rattle.pcm_base.specs.model.Words.{is_closed, is_disconnected, is_draining, is_paused, is_playback, is_prepared, is_running, is_suspended, when, ◌then◌}
 use Rattle.pcm_laws.proofs.KeptByActs.{first_none}
@@ -153,10 +153,7 @@ epipe-kept bars d P w k s f sound h g = updating-kept bars d P w k s (or_epipe f
 stuck-kept : (bars : Act → Outcome → Bool) (d : Dir) (P : Stream → Type 0) (w : IsKept bars d P) (k : SubId) (c : ClientId) (x : Xfer) (fs : List Frame) (r : ℕ) (s : Stream) → x.writing ≡ is_playback d → Sound s → P s → Keeps bars P k (stuck c x fs r s)
 stuck-kept bars d P w k c x fs r s y sound h = by (not x.writing && is_draining s.state) x.mode
   where
-    by : (b : Bool) (m : Mode) → Keeps bars P k (cond b (Makes (act.Stop state.Setup) s (λ o. tells (reply.Frames (x.moved + length fs)) x fs)) (elim m as (λ _. Program) [
-      | mode.NonBlock ↦ tells (frames_or (x.moved + length fs) errno.Eagain) x fs s
-      | mode.Block ↦ tells reply.Asleep x fs (sleeping (waiting_for c x r (x.moved + length fs) (min r s.setup.sw.avail_min)) s)
-    ]))
+    by : (b : Bool) (m : Mode) → Keeps bars P k (cond b (Makes (act.Stop state.Setup) s (λ o. tells (reply.Frames (x.moved + length fs)) x fs)) (stuck_in m c x fs r s))
     by true m = (refl, λ v o q z. w.acts k (act.Stop state.Setup) v o s refl q z sound h)
     by false mode.NonBlock = h
     by false mode.Block = w.sleeps c x r (x.moved + length fs) (min r s.setup.sw.avail_min) s y h
@@ -292,15 +289,7 @@ transfer-kept bars d P w k c x wanted io s y sound h = by s.state s.dir
     may = if-kept bars P k (nat_lt (avail s) wanted) (says reply.Asleep s) (go_on c x io (left_by c s)) (λ _. h)
         (λ _. go_on-kept bars d P w k c x io (left_by c s) y (Sound-left_by c s sound) (w.leaves c s h))
 
-    by : (t : State) (v : Dir) → Keeps bars P k (elim t as (λ _. Program) [
-      | state.Prepared ↦ if nat_lt (avail s) wanted then says reply.Asleep s else go_on c x io (left_by c s)
-      | state.Running ↦ if nat_lt (avail s) wanted then says reply.Asleep s else go_on c x io (left_by c s)
-      | state.Paused ↦ if nat_lt (avail s) wanted then says reply.Asleep s else go_on c x io (left_by c s)
-      | state.Suspended ↦ says (frames_or x.moved errno.Estrpipe) (left_by c s)
-      | state.Xrun ↦ says (frames_or x.moved errno.Epipe) (left_by c s)
-      | state.Draining ↦ elim v as (λ _. Program) [ dir.Playback ↦ says (frames_or x.moved errno.Epipe) (left_by c s) | dir.Capture ↦ go_on c x io (left_by c s) ]
-      | _ ↦ says (frames_or x.moved errno.Ebadfd) (left_by c s)
-    ])
+    by : (t : State) (v : Dir) → Keeps bars P k (go_transfer_in t v c x wanted io s)
     by state.Prepared v = may
     by state.Running v = may
     by state.Paused v = may
@@ -327,7 +316,7 @@ task-kept bars d P w k c task.Drain io s y sound h = if-kept bars P k (is_discon
 go-kept : (bars : Act → Outcome → Bool) (d : Dir) (P : Stream → Type 0) (w : IsKept bars d P) (k : SubId) (c : ClientId) (io : List ℕ) (s : Stream) → Sound s → P s → Keeps bars P k (go c io s)
 go-kept bars d P w k c io s sound h = by (waiting_of c s.sleepers) refl
   where
-    by : (q : Option Task) → waiting_of c s.sleepers ≡ q → Keeps bars P k (elim q as (λ _. Program) [ None ↦ fails errno.Einval s | Some p ↦ if nat_eq (length io) (length_of p s) then go_task c p io s else fails errno.Einval s ])
+    by : (q : Option Task) → waiting_of c s.sleepers ≡ q → Keeps bars P k (go_call q c io s)
     by None e = h
     by (Some p) e = if-kept bars P k (nat_eq (length io) (length_of p s)) (go_task c p io s) (fails errno.Einval s)
         (λ _. task-kept bars d P w k c p io s (λ x wanted q. w.fit c x wanted s h (e ∙ ap Some q)) sound h) (λ _. h)

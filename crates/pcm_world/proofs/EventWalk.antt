@@ -32,9 +32,9 @@ use Rattle.pcm_base.specs.declared.state.State.{State}
 use Rattle.pcm_base.specs.declared.state.State.TheVariants as state
 use Rattle.pcm_base.specs.model.Acts.{after, table}
 use Rattle.pcm_base.specs.model.Allowed.{accepts, buffer_of}
-use Rattle.pcm_base.specs.model.Events.{closed, delay, drain, drain_now, event, forwarded, freed, go, go_drain, go_on, go_task, go_transfer, hands, if_held, is_busy, is_mapped_access, left_by, length_of, opens, others_than, page, plan_set, poll, program, rewound, set_mappings, set_setup, set_sw, setup_of, unplug_alone, unplugged, waiting_of, watch}
+use Rattle.pcm_base.specs.model.Events.{closed, delay, drain, drain_now, event, forwarded, freed, go, go_call, go_drain, go_on, go_task, go_transfer, go_transfer_in, hands, if_held, is_busy, is_mapped_access, left_by, length_of, opens, others_than, page, plan_set, poll, program, rewound, set_mappings, set_setup, set_sw, setup_of, unplug_alone, unplugged, waiting_of, watch}
 use Rattle.pcm_base.specs.model.Frame.{Frame}
-use Rattle.pcm_base.specs.model.Movement.{Movement, carried, carried_frames, given_by, move, taken_by, taken_bytes}
+use Rattle.pcm_base.specs.model.Movement.{Movement, carried, carried_by, carried_frames, move, taken_bytes}
 use Rattle.pcm_base.specs.model.PointerCalls.{back_by, hw_avail, on_by, sync_to}
 use Rattle.pcm_base.specs.model.Program.{Answer, Ends, Makes, Program, act_alone, after_found, fails, going_on, making, or_epipe, says, unless, updated_or_epipe, updating}
 use Rattle.pcm_base.specs.model.Software.{refuses_sw}
@@ -341,10 +341,7 @@ quiet-movement : (s : Stream) (b : Bool) (x y : Movement) → IsQuiet s (record 
 quiet-movement s true x y h k = h
 quiet-movement s false x y h k = k
 
-beside-carried : (n : ℕ) (s : Stream) (w : Dir) → IsBeside s (elim w as (λ _. Stream) [
-  | dir.Playback ↦ record s { card = record s.card { taken = s.card.taken ++ taken_by n s }; at = record s.at { card = s.at.card + n }; moved = s.moved + n }
-  | dir.Capture ↦ record s { card = record s.card { to_give = drop n s.card.to_give }; puts = put_at s.at.card (given_by n s) s.puts; at = record s.at { card = s.at.card + n }; moved = s.moved + n }
-])
+beside-carried : (n : ℕ) (s : Stream) (w : Dir) → IsBeside s (carried_by w n s)
 beside-carried n s dir.Playback = record { sleepers = refl; frames = record { config = refl; frame_bytes = refl } }
 beside-carried n s dir.Capture = record { sleepers = refl; frames = record { config = refl; frame_bytes = refl } }
 
@@ -587,15 +584,7 @@ steps-transfer c io s x v begun d own puts = by s.state s.dir
     may : Keeps (IsStepped call.Go c io s) (if nat_lt (avail s) v then says reply.Asleep s else go_on c x io (left_by c s))
     may = keeps-if (IsStepped call.Go c io s) (nat_lt (avail s) v) (says reply.Asleep s) (go_on c x io (left_by c s)) (λ _. go-asleep c io s x v begun) (λ _. steps-go_on c io s x v begun d own puts)
 
-    by : (t : State) (w : Dir) → Keeps (IsStepped call.Go c io s) (elim t as (λ _. Program) [
-      | state.Prepared ↦ if nat_lt (avail s) v then says reply.Asleep s else go_on c x io (left_by c s)
-      | state.Running ↦ if nat_lt (avail s) v then says reply.Asleep s else go_on c x io (left_by c s)
-      | state.Paused ↦ if nat_lt (avail s) v then says reply.Asleep s else go_on c x io (left_by c s)
-      | state.Suspended ↦ says (frames_or x.moved errno.Estrpipe) (left_by c s)
-      | state.Xrun ↦ says (frames_or x.moved errno.Epipe) (left_by c s)
-      | state.Draining ↦ elim w as (λ _. Program) [ dir.Playback ↦ says (frames_or x.moved errno.Epipe) (left_by c s) | dir.Capture ↦ go_on c x io (left_by c s) ]
-      | _ ↦ says (frames_or x.moved errno.Ebadfd) (left_by c s)
-    ])
+    by : (t : State) (w : Dir) → Keeps (IsStepped call.Go c io s) (go_transfer_in t w c x v io s)
     by state.Prepared w = may
     by state.Running w = may
     by state.Paused w = may
@@ -648,7 +637,7 @@ steps-go : (c : ClientId) (io : List ℕ) (s : Stream) → HaveDistinctClients s
 steps-go c io s d own puts = by (waiting_of c s.sleepers) refl own
   where
     by : (q : Option Task) → waiting_of c s.sleepers ≡ q → IsOwn q io s
-        → Keeps (IsStepped call.Go c io s) (elim q as (λ _. Program) [ None ↦ fails errno.Einval s | Some p ↦ if nat_eq (length io) (length_of p s) then go_task c p io s else fails errno.Einval s ])
+        → Keeps (IsStepped call.Go c io s) (go_call q c io s)
     by None e o = absurd o
     by (Some p) e o = keeps-if (IsStepped call.Go c io s) (nat_eq (length io) (length_of p s)) (go_task c p io s) (fails errno.Einval s) (λ _. steps-go_task c io s p e d o puts)
         (λ other. absurd (let size : length io ≡ length_of p s = own-length p io s o in let no : ⊥ = grind (arith, nat_tests, size, other) in no))

@@ -15,18 +15,19 @@ use Rattle.pcm_base.specs.declared.reply.Reply.TheVariants as reply
 use Rattle.pcm_base.specs.declared.sleeper.Task.{Task}
 use Rattle.pcm_base.specs.declared.sleeper.Task.TheVariants as task
 use Rattle.pcm_base.specs.declared.sleeper.Xfer.{Xfer}
+use Rattle.pcm_base.specs.declared.state.Dir.{Dir}
 use Rattle.pcm_base.specs.declared.state.Dir.TheVariants as dir
 use Rattle.pcm_base.specs.declared.state.Errno.TheVariants as errno
 use Rattle.pcm_base.specs.declared.state.State.{State}
 use Rattle.pcm_base.specs.declared.state.State.TheVariants as state
-use Rattle.pcm_base.specs.model.Events.{go_on, go_task, go_transfer, left_by, length_of, opens, program, waiting_of}
+use Rattle.pcm_base.specs.model.Events.{go_call, go_on, go_or_sleep, go_task, go_transfer, go_transfer_in, left_by, length_of, opens, program, waiting_of}
 use Rattle.pcm_base.specs.model.Frame.{Frame}
 use Rattle.pcm_base.specs.model.Group.{group_step, stream_of}
 use Rattle.pcm_base.specs.model.Program.{Answer, Program, fails, says}
 use Rattle.pcm_base.specs.model.Replay.{bytes_by}
 use Rattle.pcm_base.specs.model.Sound.{Sound, SoundAt, may_be_set_up}
 use Rattle.pcm_base.specs.model.Stream.{Member, Stream, avail, is_bare}
-use Rattle.pcm_base.specs.model.Transfer.{fits, frames_by, frames_or, read_on, write_on}
+use Rattle.pcm_base.specs.model.Transfer.{fits, frames_by, read_on, write_on}
 use Rattle.pcm_base.specs.model.Words.{is_closed}
 use Rattle.pcm_base.specs.model.World.{InProgress, World, call_of, group_of, holds, task_bytes, told_bytes}
 use Rattle.pcm_stream.specs.declared.runtime.Runtime.{Runtime}
@@ -169,24 +170,30 @@ go_on-read c x io now s w = read-on now ∙ sym (read-on io)
     read-on : (bytes : List ℕ) → go_on c x bytes s ≡ read_on c x [] x.rest s
     read-on bytes = ap (λ (b : Bool). cond b (write_on c x [] (drop x.moved (frames_by x.layout s bytes)) s) (read_on c x [] x.rest s)) w
 
-transfer-by : ClientId → Xfer → ℕ → Stream → Program → Program
-transfer-by c x v s p = elim s.state as (λ _. Program) [
-  | state.Prepared ↦ cond (nat_lt (avail s) v) (says reply.Asleep s) p
-  | state.Running ↦ cond (nat_lt (avail s) v) (says reply.Asleep s) p
-  | state.Paused ↦ cond (nat_lt (avail s) v) (says reply.Asleep s) p
-  | state.Suspended ↦ says (frames_or x.moved errno.Estrpipe) (left_by c s)
-  | state.Xrun ↦ says (frames_or x.moved errno.Epipe) (left_by c s)
-  | state.Draining ↦ elim s.dir as (λ _. Program) [ dir.Playback ↦ says (frames_or x.moved errno.Epipe) (left_by c s) | dir.Capture ↦ p ]
-  | _ ↦ says (frames_or x.moved errno.Ebadfd) (left_by c s)
-]
-
 transfer-read : (c : ClientId) (x : Xfer) (v : ℕ) (io now : List ℕ) (s : Stream) → x.writing ≡ false → go_transfer c x v now s ≡ go_transfer c x v io s
-unfolding transfer-by
-transfer-read c x v io now s w = ap (transfer-by c x v s) (go_on-read c x io now (left_by c s) w)
+transfer-read c x v io now s w = by s.state s.dir
+  where
+    on : go_on c x now (left_by c s) ≡ go_on c x io (left_by c s)
+    on = go_on-read c x io now (left_by c s) w
+
+    may : go_or_sleep c x v now s ≡ go_or_sleep c x v io s
+    may = ap (λ (p : Program). cond (nat_lt (avail s) v) (says reply.Asleep s) p) on
+
+    by : (t : State) (d : Dir) → go_transfer_in t d c x v now s ≡ go_transfer_in t d c x v io s
+    by state.Prepared d = may
+    by state.Running d = may
+    by state.Paused d = may
+    by state.Draining dir.Playback = refl
+    by state.Draining dir.Capture = on
+    by state.Suspended d = refl
+    by state.Xrun d = refl
+    by state.Closed d = refl
+    by state.Opened d = refl
+    by state.Setup d = refl
+    by state.Disconnected d = refl
 
 go-same : (c : ClientId) (o : Option Task) (io now : List ℕ) (s : Stream) → length now ≡ length io → (read_layout o ≡ None → now ≡ io)
-    → (elim o as (λ _. Program) [ None ↦ fails errno.Einval s | Some t ↦ cond (nat_eq (length now) (length_of t s)) (go_task c t now s) (fails errno.Einval s) ])
-    ≡ (elim o as (λ _. Program) [ None ↦ fails errno.Einval s | Some t ↦ cond (nat_eq (length io) (length_of t s)) (go_task c t io s) (fails errno.Einval s) ])
+    → go_call o c now s ≡ go_call o c io s
 go-same c None io now s size h = refl
 go-same c (Some task.Drain) io now s size h = ap (λ (b : List ℕ). cond (nat_eq (length b) 0) (go_task c task.Drain b s) (fails errno.Einval s)) (h refl)
 go-same c (Some (task.Transfer x v)) io now s size h = by x.writing refl h

@@ -18,10 +18,9 @@ use Rattle.pcm_base.specs.declared.state.Dir.{Dir}
 use Rattle.pcm_base.specs.declared.state.Dir.TheVariants as dir
 use Rattle.pcm_base.specs.model.Acts.{subs}
 use Rattle.pcm_base.specs.model.Events.{hands, opens, program}
-use Rattle.pcm_base.specs.model.Frame.{Frame, bytes_of}
+use Rattle.pcm_base.specs.model.Frame.{bytes_of}
 use Rattle.pcm_base.specs.model.Group.{Run, group_step, run_event, stream_of}
-use Rattle.pcm_base.specs.model.Movement.{Movement, carried, carried_frames, given_by, move, taken_by, taken_bytes}
-use Rattle.pcm_base.specs.model.Standing.{put_at}
+use Rattle.pcm_base.specs.model.Movement.{Movement, carried, carried_by, carried_frames, frames_taken, move, taken_bytes}
 use Rattle.pcm_base.specs.model.Program.{Answer, fails}
 use Rattle.pcm_base.specs.model.Replay.{Decomposes, Distinct, parts_of}
 use Rattle.pcm_base.specs.model.Stream.{Member, Stream}
@@ -370,10 +369,7 @@ takes-none s r = sym (append-nil s.card.taken)
 takes-carried : (n : ℕ) (s : Stream) → (carried n s).card.taken ≡ s.card.taken ++ carried_frames n s
 takes-carried n s = by s.dir
   where
-    by : (d : Dir) → (elim d as (λ _. Stream) [
-      | dir.Playback ↦ record s { card = record s.card { taken = s.card.taken ++ taken_by n s }; at = record s.at { card = s.at.card + n }; moved = s.moved + n }
-      | dir.Capture ↦ record s { card = record s.card { to_give = drop n s.card.to_give }; puts = put_at s.at.card (given_by n s) s.puts; at = record s.at { card = s.at.card + n }; moved = s.moved + n }
-    ]).card.taken ≡ s.card.taken ++ (elim d as (λ _. List Frame) [ dir.Playback ↦ taken_by n s | dir.Capture ↦ [] ])
+    by : (d : Dir) → (carried_by d n s).card.taken ≡ s.card.taken ++ (frames_taken d n s)
     by dir.Playback = refl
     by dir.Capture = sym (append-nil s.card.taken)
 

@@ -27,7 +27,7 @@ use Rattle.pcm_base.specs.model.PointerCalls.{on_by}
 use Rattle.pcm_base.specs.model.Program.{Answer, Ends, Makes, Program, after_found, going_on, making, or_epipe, unless, updated_or_epipe}
 use Rattle.pcm_base.specs.model.Standing.{standing_at}
 use Rattle.pcm_base.specs.model.Stream.{Setup, Stream, Waiting, avail, zero_frame}
-use Rattle.pcm_base.specs.model.Transfer.{after_moves, after_start, frames_or, put_next, read_next, read_on, sleeping, start_reading, starting_halt, stuck, tells, waiting_for, write_from, write_on, write_plain}
+use Rattle.pcm_base.specs.model.Transfer.{after_moves, after_start, frames_or, put_next, read_next, read_on, start_reading, starting_halt, stuck, stuck_in, tells, waiting_for, write_from, write_on, write_plain}
 use Rattle.pcm_base.specs.model.Update.{Refreshed, found, moved_up, settled, update}
 use Rattle.pcm_base.specs.model.Words.{is_draining, is_prepared}
 use Rattle.pcm_laws.proofs.Leaves.{IsSameBesideActs-after}
@@ -185,10 +185,7 @@ ends-frames c y ps s t fs rest w h = record {
 walks-stuck : (c : ClientId) (y : Xfer) (ps : List Waiting) (s t : Stream) (fs : List Frame) (rest : ℕ) → IsUnderWay y s fs rest → IsOn y ps s t → Keeps (IsEnd c y ps s) (stuck c y fs rest t)
 walks-stuck c y ps s t fs rest w h = by (not y.writing && is_draining t.state) y.mode
   where
-    by : (b : Bool) (m : Mode) → Keeps (IsEnd c y ps s) (cond b (Makes (act.Stop state.Setup) t (λ o. tells (reply.Frames (y.moved + length fs)) y fs)) (elim m as (λ _. Program) [
-      | mode.NonBlock ↦ tells (frames_or (y.moved + length fs) errno.Eagain) y fs t
-      | mode.Block ↦ tells reply.Asleep y fs (sleeping (waiting_for c y rest (y.moved + length fs) (min rest t.setup.sw.avail_min)) t)
-    ]))
+    by : (b : Bool) (m : Mode) → Keeps (IsEnd c y ps s) (cond b (Makes (act.Stop state.Setup) t (λ o. tells (reply.Frames (y.moved + length fs)) y fs)) (stuck_in m c y fs rest t))
     by true m = λ v o. ends-frames c y ps s (after (act.Stop state.Setup) v o t) fs rest w (on-after y ps s (act.Stop state.Setup) v o t h)
     by false mode.NonBlock = ends-frames_or c y ps s t fs rest errno.Eagain w h
     by false mode.Block = record {

@@ -14,10 +14,9 @@ use Rattle.pcm_base.specs.declared.state.Dir.{Dir}
 use Rattle.pcm_base.specs.declared.state.Dir.TheVariants as dir
 use Rattle.pcm_base.specs.declared.state.State.{State}
 use Rattle.pcm_base.specs.declared.state.State.TheVariants as state
-use Rattle.pcm_base.specs.model.Acts.{after, asked, asks, consulted, done, was_asked}
+use Rattle.pcm_base.specs.model.Acts.{after, asked, asks, consulted, done, drained_from, resumed_to, stopped_in, was_asked}
 use Rattle.pcm_base.specs.model.Stream.{Stream, avail}
 use Rattle.pcm_base.specs.model.Update.{Refreshed, fill, fill_count, fill_start, found, lap, moved_up, reported, set_runs, set_state, settled, silence_byte, silent_frame, update}
-use Rattle.pcm_base.specs.model.Words.{runs_in}
 use Rattle.pcm_stream.specs.Wide.{PutsAreWide}
 use Rattle.pcm_stream.proofs.RunsLemmas.{AreWide-replicate, PutsAreWide-put_at}
 
@@ -34,7 +33,7 @@ wide-one true s t h g = h
 wide-one false s t h g = g
 
 wide-stopped : (u : State) (s : Stream) (t : State) → HasWidePuts s
-    → HasWidePuts (elim t as (λ _. Stream) [ state.Opened ↦ s | state.Closed ↦ s | state.Disconnected ↦ s | _ ↦ set_runs false (record s { state = u; kept = None }) ])
+    → HasWidePuts (stopped_in t u s)
 wide-stopped u s state.Closed h = h
 wide-stopped u s state.Opened h = h
 wide-stopped u s state.Setup h = h
@@ -46,25 +45,14 @@ wide-stopped u s state.Paused h = h
 wide-stopped u s state.Suspended h = h
 wide-stopped u s state.Disconnected h = h
 
-wide-resumed : (s : Stream) (k : Option State) → HasWidePuts s → HasWidePuts (elim k as (λ _. Stream) [ None ↦ s | Some t ↦ set_runs (runs_in s.dir t) (record s { state = t; kept = None }) ])
+wide-resumed : (s : Stream) (k : Option State) → HasWidePuts s → HasWidePuts (resumed_to k s)
 wide-resumed s None h = h
 wide-resumed s (Some t) h = h
 
 wide-begun : (t : State) (s : Stream) → HasWidePuts s → HasWidePuts (fill (set_runs true (set_state t s)))
 wide-begun t s h = wide-fill (set_runs true (set_state t s)) h
 
-wide-drained : (s : Stream) (d : Dir) (t : State) → HasWidePuts s → HasWidePuts (elim d as (λ _. Stream) [
-  | dir.Playback ↦ elim t as (λ _. Stream) [
-    | state.Prepared ↦ cond (nat_lt (avail s) s.setup.buffer) (fill (set_runs true (set_state state.Draining s))) (set_state state.Setup s)
-    | state.Running ↦ set_state state.Draining s
-    | state.Xrun ↦ set_state state.Setup s
-    | _ ↦ s
-  ]
-  | dir.Capture ↦ elim t as (λ _. Stream) [
-    | state.Running ↦ set_runs false (cond (nat_lt 0 (avail s)) (set_state state.Draining s) (set_state state.Setup s))
-    | _ ↦ s
-  ]
-])
+wide-drained : (s : Stream) (d : Dir) (t : State) → HasWidePuts s → HasWidePuts (drained_from d t s)
 wide-drained s dir.Playback state.Closed h = h
 wide-drained s dir.Playback state.Opened h = h
 wide-drained s dir.Playback state.Setup h = h

@@ -28,7 +28,7 @@ use Rattle.pcm_base.specs.declared.state.State.{State}
 use Rattle.pcm_base.specs.declared.state.State.TheVariants as state
 use Rattle.pcm_base.specs.model.Acts.{table}
 use Rattle.pcm_base.specs.model.Allowed.{accepts, buffer_of}
-use Rattle.pcm_base.specs.model.Events.{closed, delay, drain, drain_now, event, forwarded, freed, go, go_drain, go_on, go_task, go_transfer, hands, if_held, is_busy, is_mapped_access, left_by, length_of, opens, page, plan_set, program, rewound, set_mappings, set_setup, set_sw, setup_of, unplug_alone, waiting_of, watch}
+use Rattle.pcm_base.specs.model.Events.{closed, delay, drain, drain_now, event, forwarded, freed, go, go_call, go_drain, go_on, go_task, go_transfer, go_transfer_in, hands, if_held, is_busy, is_mapped_access, left_by, length_of, opens, page, plan_set, program, rewound, set_mappings, set_setup, set_sw, setup_of, unplug_alone, waiting_of, watch}
 use Rattle.pcm_base.specs.model.Frame.{Frame}
 use Rattle.pcm_base.specs.model.PointerCalls.{on_by, sync_to}
 use Rattle.pcm_base.specs.model.Program.{Ends, Makes, Program, act_alone, after_found, fails, making, or_epipe, says, unless, updated_or_epipe, updating}
@@ -36,7 +36,7 @@ use Rattle.pcm_base.specs.model.Replay.{Part, Plays, joined, part_of, parts_of}
 use Rattle.pcm_base.specs.model.Software.{refuses_sw}
 use Rattle.pcm_base.specs.model.Standing.{put_at, standing_at}
 use Rattle.pcm_base.specs.model.Stream.{Stream, avail, is_bare, zero_frame}
-use Rattle.pcm_base.specs.model.Transfer.{after_moves, after_start, frames_by, frames_in, frames_or, is_whole, misfit, put_next, read, read_next, read_on, sleeping, start_reading, starting_halt, stuck, tells, waiting_for, write, write_from, write_on, write_plain}
+use Rattle.pcm_base.specs.model.Transfer.{after_moves, after_start, frames_by, frames_in, is_whole, misfit, put_next, read, read_next, read_on, start_reading, starting_halt, stuck, stuck_in, tells, write, write_from, write_on, write_plain}
 use Rattle.pcm_base.specs.model.Update.{update}
 use Rattle.pcm_base.specs.model.Words.{is_closed, is_disconnected, is_draining, is_paused, is_playback, is_prepared, is_running, is_suspended, when, ◌then◌}
 use Rattle.pcm_base.specs.declared.ids.SubId.{SubId}
@@ -93,10 +93,7 @@ AfterStart-if false p q h k = k
 AfterStart-stuck : (c : ClientId) (x : Xfer) (fs : List Frame) (r : ℕ) (s : Stream) → AfterStart (stuck c x fs r s)
 AfterStart-stuck c x fs r s = by (not x.writing && is_draining s.state) x.mode
   where
-    by : (b : Bool) (w : Mode) → AfterStart (cond b (Makes (act.Stop state.Setup) s (λ o. tells (reply.Frames (x.moved + length fs)) x fs)) (elim w as (λ _. Program) [
-      | mode.NonBlock ↦ tells (frames_or (x.moved + length fs) errno.Eagain) x fs s
-      | mode.Block ↦ tells reply.Asleep x fs (sleeping (waiting_for c x r (x.moved + length fs) (min r s.setup.sw.avail_min)) s)
-    ]))
+    by : (b : Bool) (w : Mode) → AfterStart (cond b (Makes (act.Stop state.Setup) s (λ o. tells (reply.Frames (x.moved + length fs)) x fs)) (stuck_in w c x fs r s))
     by true w = (refl, λ o t. (tt, tt))
     by false mode.NonBlock = (tt, tt)
     by false mode.Block = (tt, tt)
@@ -172,15 +169,7 @@ Follows-go_transfer c x wanted io s = by s.state s.dir
     may : Follows (if nat_lt (avail s) wanted then says reply.Asleep s else go_on c x io (left_by c s))
     may = Follows-if (nat_lt (avail s) wanted) (says reply.Asleep s) (go_on c x io (left_by c s)) tt (Follows-go_on c x io (left_by c s))
 
-    by : (t : State) (d : Dir) → Follows (elim t as (λ _. Program) [
-      | state.Prepared ↦ if nat_lt (avail s) wanted then says reply.Asleep s else go_on c x io (left_by c s)
-      | state.Running ↦ if nat_lt (avail s) wanted then says reply.Asleep s else go_on c x io (left_by c s)
-      | state.Paused ↦ if nat_lt (avail s) wanted then says reply.Asleep s else go_on c x io (left_by c s)
-      | state.Suspended ↦ says (frames_or x.moved errno.Estrpipe) (left_by c s)
-      | state.Xrun ↦ says (frames_or x.moved errno.Epipe) (left_by c s)
-      | state.Draining ↦ elim d as (λ _. Program) [ dir.Playback ↦ says (frames_or x.moved errno.Epipe) (left_by c s) | dir.Capture ↦ go_on c x io (left_by c s) ]
-      | _ ↦ says (frames_or x.moved errno.Ebadfd) (left_by c s)
-    ])
+    by : (t : State) (d : Dir) → Follows (go_transfer_in t d c x wanted io s)
     by state.Prepared d = may
     by state.Running d = may
     by state.Paused d = may
@@ -209,7 +198,7 @@ Follows-go_task c task.Drain io s = Follows-if (is_disconnected s.state) (fails 
 Follows-go : (c : ClientId) (io : List ℕ) (s : Stream) → Follows (go c io s)
 Follows-go c io s = by (waiting_of c s.sleepers)
   where
-    by : (k : Option Task) → Follows (elim k as (λ _. Program) [ None ↦ fails errno.Einval s | Some p ↦ if nat_eq (length io) (length_of p s) then go_task c p io s else fails errno.Einval s ])
+    by : (k : Option Task) → Follows (go_call k c io s)
     by None = tt
     by (Some p) = Follows-if (nat_eq (length io) (length_of p s)) (go_task c p io s) (fails errno.Einval s) (Follows-go_task c p io s) tt
 

@@ -17,7 +17,7 @@ use Rattle.pcm_base.specs.declared.sleeper.Task.{Task}
 use Rattle.pcm_base.specs.declared.sleeper.Task.TheVariants as task
 use Rattle.pcm_base.specs.declared.state.Errno.{Errno}
 use Rattle.pcm_base.specs.declared.state.Errno.TheVariants as errno
-use Rattle.pcm_base.specs.model.Events.{event, go, go_task, hands, length_of, opens, program, waiting_of}
+use Rattle.pcm_base.specs.model.Events.{event, go, go_call, go_task, hands, opens, program, waiting_of}
 use Rattle.pcm_base.specs.model.Frame.{Frame, bytes_of, frames_of}
 use Rattle.pcm_base.specs.model.Group.{group_step, stream_of}
 use Rattle.pcm_base.specs.model.Program.{Answer, Program, Ends, Makes, fails, unless}
@@ -66,7 +66,7 @@ sizes-write c w m io s = by (is_whole s io) refl
 sizes-go : (c : ClientId) (io : List ℕ) (s : Stream) → Ever (Sizes call.Go c io s) (go c io s)
 sizes-go c io s = by (waiting_of c s.sleepers)
   where
-    by : (k : Option Task) → Ever (SizesTask k io s) (elim k as (λ _. Program) [ None ↦ fails errno.Einval s | Some p ↦ if nat_eq (length io) (length_of p s) then go_task c p io s else fails errno.Einval s ])
+    by : (k : Option Task) → Ever (SizesTask k io s) (go_call k c io s)
     by None = tt
     by (Some (task.Transfer x wanted)) = one (nat_eq (length io) ((x.moved + x.rest) * s.setup.frame_bytes)) refl
       where

@@ -21,8 +21,7 @@ use Rattle.pcm_base.specs.model.Acts.{subs}
 use Rattle.pcm_base.specs.model.Events.{hands, waiting_of}
 use Rattle.pcm_base.specs.model.Frame.{Frame, bytes_of}
 use Rattle.pcm_base.specs.model.Group.{group_step, put_stream, run, stream_of}
-use Rattle.pcm_base.specs.model.Movement.{Movement, carried, carried_frames, given_by, move, taken_by, taken_bytes}
-use Rattle.pcm_base.specs.model.Standing.{put_at}
+use Rattle.pcm_base.specs.model.Movement.{Movement, carried, carried_by, carried_frames, frames_taken, move, taken_by, taken_bytes}
 use Rattle.pcm_base.specs.model.Program.{Answer, fails}
 use Rattle.pcm_base.specs.model.Replay.{IsLent, is_member, reading_length}
 use Rattle.pcm_base.specs.model.Stream.{Member, Stream}
@@ -103,10 +102,7 @@ moved-takes s n false true c = none-taken s
 moved-takes s n false false true = none-taken s
 moved-takes s n false false false = by s.dir
   where
-    by : (d : Dir) → bytes_of (elim d as (λ _. Stream) [
-      | dir.Playback ↦ record s { card = record s.card { taken = s.card.taken ++ taken_by n s }; at = record s.at { card = s.at.card + n }; moved = s.moved + n }
-      | dir.Capture ↦ record s { card = record s.card { to_give = drop n s.card.to_give }; puts = put_at s.at.card (given_by n s) s.puts; at = record s.at { card = s.at.card + n }; moved = s.moved + n }
-    ]).card.taken ≡ bytes_of s.card.taken ++ bytes_of (elim d as (λ _. List Frame) [ dir.Playback ↦ taken_by n s | dir.Capture ↦ [] ])
+    by : (d : Dir) → bytes_of (carried_by d n s).card.taken ≡ bytes_of s.card.taken ++ bytes_of (frames_taken d n s)
     by dir.Playback = bytes-both s.card.taken (taken_by n s)
     by dir.Capture = none-taken s
 

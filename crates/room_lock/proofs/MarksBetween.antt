@@ -13,11 +13,10 @@ use Rattle.pcm_base.specs.declared.state.Dir.{Dir}
 use Rattle.pcm_base.specs.declared.state.Dir.TheVariants as dir
 use Rattle.pcm_base.specs.declared.state.State.{State}
 use Rattle.pcm_base.specs.declared.state.State.TheVariants as state
-use Rattle.pcm_base.specs.model.Acts.{after, asked, asks, consulted, done, was_asked}
+use Rattle.pcm_base.specs.model.Acts.{after, asked, asks, consulted, done, drained_from, resumed_to, stopped_in, was_asked}
 use Rattle.pcm_base.specs.model.Replay.{Joins, Part, joined}
 use Rattle.pcm_base.specs.model.Stream.{Setup, Stream, avail, shown}
 use Rattle.pcm_base.specs.model.Update.{fill, set_runs, set_state}
-use Rattle.pcm_base.specs.model.Words.{runs_in}
 use Rattle.pcm_laws.specs.Steps.{ActsLeaveTheRest}
 use Rattle.room_lock.specs.Between.{MarksShow, follow, goes_before, is_done, is_watch, may_follow, sets_running, state_then, stays_at}
 
@@ -29,7 +28,7 @@ one_of true s t u e g = e
 one_of false s t u e g = g
 
 stop_at : (u : State) (s : Stream) (t : State)
-    → (elim t as (λ _. Stream) [ state.Opened ↦ s | state.Closed ↦ s | state.Disconnected ↦ s | _ ↦ set_runs false (record s { state = u; kept = None }) ]).at.hw ≡ s.at.hw
+    → (stopped_in t u s).at.hw ≡ s.at.hw
 stop_at u s state.Closed = refl
 stop_at u s state.Opened = refl
 stop_at u s state.Setup = refl
@@ -41,22 +40,11 @@ stop_at u s state.Paused = refl
 stop_at u s state.Suspended = refl
 stop_at u s state.Disconnected = refl
 
-resume_at : (s : Stream) (k : Option State) → (elim k as (λ _. Stream) [ None ↦ s | Some t ↦ set_runs (runs_in s.dir t) (record s { state = t; kept = None }) ]).at.hw ≡ s.at.hw
+resume_at : (s : Stream) (k : Option State) → (resumed_to k s).at.hw ≡ s.at.hw
 resume_at s None = refl
 resume_at s (Some t) = refl
 
-drain_at : (s : Stream) (d : Dir) (t : State) → (elim d as (λ _. Stream) [
-  | dir.Playback ↦ elim t as (λ _. Stream) [
-    | state.Prepared ↦ cond (nat_lt (avail s) s.setup.buffer) (fill (set_runs true (set_state state.Draining s))) (set_state state.Setup s)
-    | state.Running ↦ set_state state.Draining s
-    | state.Xrun ↦ set_state state.Setup s
-    | _ ↦ s
-  ]
-  | dir.Capture ↦ elim t as (λ _. Stream) [
-    | state.Running ↦ set_runs false (cond (nat_lt 0 (avail s)) (set_state state.Draining s) (set_state state.Setup s))
-    | _ ↦ s
-  ]
-]).at.hw ≡ s.at.hw
+drain_at : (s : Stream) (d : Dir) (t : State) → (drained_from d t s).at.hw ≡ s.at.hw
 drain_at s dir.Playback state.Closed = refl
 drain_at s dir.Playback state.Opened = refl
 drain_at s dir.Playback state.Setup = refl

@@ -14,11 +14,11 @@ use Rattle.pcm_base.specs.declared.ids.SubId.{SubId}
 use Rattle.pcm_base.specs.declared.reply.Page.{Page}
 use Rattle.pcm_base.specs.declared.sleeper.Sleeper.{Sleeper}
 use Rattle.pcm_base.specs.model.Acts.{subs}
-use Rattle.pcm_base.specs.model.Events.{page, waiting_of}
+use Rattle.pcm_base.specs.model.Events.{page, page_by, waiting_of}
 use Rattle.pcm_base.specs.model.Group.{stream_of}
 use Rattle.pcm_base.specs.model.Replay.{Distinct, is_member}
 use Rattle.pcm_base.specs.model.Sound.{IsBare, Sound, SoundAt}
-use Rattle.pcm_base.specs.model.Stream.{Positions, Setup, Stream, Member as ModelMember, avail, shown}
+use Rattle.pcm_base.specs.model.Stream.{Positions, Setup, Stream, Member as ModelMember, shown}
 use Rattle.pcm_base.specs.model.World.{nobody}
 use Rattle.pcm_laws.specs.Waiting.{AllHaveDistinctClients, HaveDistinctClients}
 use Rattle.sleepers.specs.Clients.{AreApart, has_client}
@@ -92,17 +92,11 @@ stands_at (y ∷ ms) (x ∷ xs) (suc i) m k d h at is =
     record { one = rest.one; stands = rest.stands; stream = rest.stream ∙ ap (λ (b : Bool). cond b x.stream (stream_of k xs)) (sym test) }
 
 -- a page shows what a mark is to show
-page_hw : (s : Stream) (o : Option Config) → SoundAt o s → (elim o as (λ _. Page) [
-  | None ↦ record { state = s.state; hw = 0; appl = 0; avail = 0 }
-  | Some c ↦ record { state = s.state; hw = shown s s.at.hw; appl = shown s s.at.appl; avail = avail s }
-]).hw ≡ shown s s.at.hw
+page_hw : (s : Stream) (o : Option Config) → SoundAt o s → (page_by o s).hw ≡ shown s s.at.hw
 page_hw s (Some c) h = refl
 page_hw s None h = sym (ap (λ (p : Positions). shown s p.hw) h.at ∙ ap (λ (u : Setup). 0 % u.boundary) h.setup)
 
-page_state : (s : Stream) (o : Option Config) → (elim o as (λ _. Page) [
-  | None ↦ record { state = s.state; hw = 0; appl = 0; avail = 0 }
-  | Some c ↦ record { state = s.state; hw = shown s s.at.hw; appl = shown s s.at.appl; avail = avail s }
-]).state ≡ s.state
+page_state : (s : Stream) (o : Option Config) → (page_by o s).state ≡ s.state
 page_state s (Some c) = refl
 page_state s None = refl
 

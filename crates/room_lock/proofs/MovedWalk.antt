@@ -34,14 +34,14 @@ use Rattle.pcm_base.specs.Boundary.{boundary_of}
 use Rattle.pcm_base.specs.model.Acts.{acted, members_after, table}
 use Rattle.pcm_base.specs.model.Allowed.{accepts, buffer_of}
 use Rattle.pcm_base.specs.model.Software.{refuses_sw}
-use Rattle.pcm_base.specs.model.Events.{event, go, go_drain, go_on, go_task, go_transfer, left_by, length_of, opens, program, waiting_of, watch, drain, drain_now, delay, rewound, forwarded, unplug_alone, closed, freed, set_sw, set_setup, setup_of, set_mappings, plan_set, page, is_busy, if_held, is_mapped_access}
+use Rattle.pcm_base.specs.model.Events.{event, go, go_drain, go_on, go_task, go_transfer, left_by, opens, program, waiting_of, watch, drain, drain_now, delay, rewound, forwarded, unplug_alone, closed, freed, set_sw, set_setup, setup_of, set_mappings, plan_set, page, is_busy, if_held, is_mapped_access, go_call, go_transfer_in}
 use Rattle.pcm_base.specs.model.Frame.{Frame, frames_of, frames_across}
 use Rattle.pcm_base.specs.model.Group.{group_step, put_stream, run, stream_of}
 use Rattle.pcm_base.specs.model.PointerCalls.{on_by, sync_to}
 use Rattle.pcm_base.specs.model.Program.{Answer, Program, Ends, Makes, act_alone, after_found, fails, making, or_epipe, says, unless, updated_or_epipe}
 use Rattle.pcm_base.specs.model.Standing.{standing_at}
 use Rattle.pcm_base.specs.model.Stream.{Member, Stream, avail, zero_frame}
-use Rattle.pcm_base.specs.model.Transfer.{after_moves, after_start, frames_by, frames_or, is_whole, misfit, put_next, read, read_next, read_on, sleeping, start_reading, starting_halt, stuck, tells, waiting_for, write, write_from, write_on, write_plain}
+use Rattle.pcm_base.specs.model.Transfer.{after_moves, after_start, frames_by, frames_or, is_whole, misfit, put_next, read, read_next, read_on, sleeping, start_reading, starting_halt, stuck, stuck_in, tells, waiting_for, write, write_from, write_on, write_plain}
 use Rattle.pcm_base.specs.model.Update.{update}
 use Rattle.pcm_base.specs.model.Words.{is_closed, is_disconnected, is_draining, is_paused, is_prepared, is_running, is_suspended, when, ◌then◌}
 use Rattle.room_lock.specs.Moved.{Ever, IsMovedBy, Moves, MovesTask}
@@ -129,10 +129,7 @@ moved-tells r x all fs s h = record { first = λ ne. by (nat_eq (length fs) 0) r
 moved-stuck : (c : ClientId) (x : Xfer) (all fs : List Frame) (r : ℕ) (s : Stream) → Fit x all fs → Ever (IsMovedBy x all) (stuck c x fs r s)
 moved-stuck c x all fs r s h = by (not x.writing && is_draining s.state) x.mode
   where
-    by : (b : Bool) (w : Mode) → Ever (IsMovedBy x all) (cond b (Makes (act.Stop state.Setup) s (λ o. tells (reply.Frames (x.moved + length fs)) x fs)) (elim w as (λ _. Program) [
-      | mode.NonBlock ↦ tells (frames_or (x.moved + length fs) errno.Eagain) x fs s
-      | mode.Block ↦ tells reply.Asleep x fs (sleeping (waiting_for c x r (x.moved + length fs) (min r s.setup.sw.avail_min)) s)
-    ]))
+    by : (b : Bool) (w : Mode) → Ever (IsMovedBy x all) (cond b (Makes (act.Stop state.Setup) s (λ o. tells (reply.Frames (x.moved + length fs)) x fs)) (stuck_in w c x fs r s))
     by true w = λ o t. moved-tells (reply.Frames (x.moved + length fs)) x all fs t h
     by false mode.NonBlock = moved-tells (frames_or (x.moved + length fs) errno.Eagain) x all fs s h
     by false mode.Block = moved-tells reply.Asleep x all fs (sleeping (waiting_for c x r (x.moved + length fs) (min r s.setup.sw.avail_min)) s) h
@@ -262,15 +259,7 @@ moved-go_transfer c x wanted io s size = by s.state s.dir
     may : Ever (IsMovedBy x all) (if nat_lt (avail s) wanted then says reply.Asleep s else go_on c x io (left_by c s))
     may = ever-if (IsMovedBy x all) (nat_lt (avail s) wanted) (says reply.Asleep s) (go_on c x io (left_by c s)) (idle reply.Asleep) goes
 
-    by : (t : State) (d : Dir) → Ever (IsMovedBy x all) (elim t as (λ _. Program) [
-      | state.Prepared ↦ if nat_lt (avail s) wanted then says reply.Asleep s else go_on c x io (left_by c s)
-      | state.Running ↦ if nat_lt (avail s) wanted then says reply.Asleep s else go_on c x io (left_by c s)
-      | state.Paused ↦ if nat_lt (avail s) wanted then says reply.Asleep s else go_on c x io (left_by c s)
-      | state.Suspended ↦ says (frames_or x.moved errno.Estrpipe) (left_by c s)
-      | state.Xrun ↦ says (frames_or x.moved errno.Epipe) (left_by c s)
-      | state.Draining ↦ elim d as (λ _. Program) [ dir.Playback ↦ says (frames_or x.moved errno.Epipe) (left_by c s) | dir.Capture ↦ go_on c x io (left_by c s) ]
-      | _ ↦ says (frames_or x.moved errno.Ebadfd) (left_by c s)
-    ])
+    by : (t : State) (d : Dir) → Ever (IsMovedBy x all) (go_transfer_in t d c x wanted io s)
     by state.Prepared d = may
     by state.Running d = may
     by state.Paused d = may
@@ -294,7 +283,7 @@ still-go_drain c (outcome.Failed j) t = refl
 moved-go : (c : ClientId) (io : List ℕ) (s : Stream) → Ever (Moves call.Go c io s) (go c io s)
 moved-go c io s = by (waiting_of c s.sleepers)
   where
-    by : (k : Option Task) → Ever (MovesTask k io s) (elim k as (λ _. Program) [ None ↦ fails errno.Einval s | Some p ↦ if nat_eq (length io) (length_of p s) then go_task c p io s else fails errno.Einval s ])
+    by : (k : Option Task) → Ever (MovesTask k io s) (go_call k c io s)
     by None = refl
     by (Some (task.Transfer x wanted)) = one (nat_eq (length io) ((x.moved + x.rest) * s.setup.frame_bytes)) refl
       where

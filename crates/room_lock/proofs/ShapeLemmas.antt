@@ -15,7 +15,7 @@ use Rattle.pcm_base.specs.declared.state.Dir.TheVariants as dir
 use Rattle.pcm_base.specs.model.Allowed.{shape_of}
 use Rattle.pcm_base.specs.model.Frame.{Frame, bytes_of}
 use Rattle.pcm_base.specs.model.Group.{stream_of}
-use Rattle.pcm_base.specs.model.Movement.{Movement, carried, carried_frames, move, taken_bytes, taken_by}
+use Rattle.pcm_base.specs.model.Movement.{Movement, carried, carried_frames, move, taken_bytes, frames_taken}
 use Rattle.pcm_base.specs.model.Replay.{Distinct}
 use Rattle.pcm_base.specs.model.Sound.{IsBare, IsConfigured, Sound, SoundAt}
 use Rattle.pcm_base.specs.model.Standing.{Put, same_slot, standing, standing_at}
@@ -98,7 +98,7 @@ reported s h z sound = by s.setup.config refl
     by (Some c) e = (let is : IsConfigured c s = subst (λ (x : Option Config). SoundAt x s) e sound in is.placed.reported)
 
 taken-most : {C : Type 0} {g : Ghosts C} (sub : Substream C g) (s : Stream) (h : Shape) (n least : ℕ) → StandsFor sub s → IsSized s h → least ≡ min n h.buffer → nat_le (s.at.hw + s.setup.buffer) (s.at.card + n) ≡ false
-    → (d : Dir) → length (bytes_of (elim d as (λ _. List Frame) [ dir.Playback ↦ taken_by n s | dir.Capture ↦ [] ])) ≤ least * h.frame_bytes
+    → (d : Dir) → length (bytes_of (frames_taken d n s)) ≤ least * h.frame_bytes
 taken-most sub s h n least st z e late dir.Capture = omega arith
 taken-most sub s h n least st z e late dir.Playback =
     let b : ℕ = s.setup.buffer in
@@ -111,7 +111,7 @@ taken-most sub s h n least st z e late dir.Playback =
     omega (arith, size, same)
 
 -- by whether the card runs, the movement comes too late, and what it has taken is too much
-moved-most : (s : Stream) (n most : ℕ) (a b c : Bool) → (a ≡ false → b ≡ false → (d : Dir) → s.dir ≡ d → length (bytes_of (elim d as (λ _. List Frame) [ dir.Playback ↦ taken_by n s | dir.Capture ↦ [] ])) ≤ most)
+moved-most : (s : Stream) (n most : ℕ) (a b c : Bool) → (a ≡ false → b ≡ false → (d : Dir) → s.dir ≡ d → length (bytes_of (frames_taken d n s)) ≤ most)
     → length (bytes_of (cond a (let m : Movement = record { reply = reply.Idle; frames = []; stream = s } in m) (cond b (let m : Movement = record { reply = reply.Late (s.setup.buffer - 1 - (s.at.card - s.at.hw)); frames = []; stream = s } in m)
     (cond c (let m : Movement = record { reply = reply.Limit (taken_bytes n s); frames = []; stream = s } in m) (record { reply = reply.Moved n; frames = carried_frames n s; stream = carried n s })))).frames) ≤ most
 moved-most s n most true b c h = omega arith

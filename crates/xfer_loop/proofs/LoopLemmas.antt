@@ -1,5 +1,5 @@
 -- A turn against the closed form of a transfer.
-use Rattle.std.proofs.Common.{ℕ, ◌≡◌, ◌≢◌, ◌-◌, ◌≤◌, ◌<◌, Bool, true, false, not, ◌&&◌, nat_eq, List, [], ◌++◌, length, take, drop, min, refl, sym, ap, ◌∙◌, arith}
+use Rattle.std.proofs.Common.{ℕ, ◌≡◌, ◌≢◌, ◌+◌, ◌-◌, ◌≤◌, ◌<◌, Bool, true, false, not, ◌&&◌, nat_eq, List, [], ◌++◌, length, take, drop, min, refl, sym, ap, ◌∙◌, arith}
 use Rattle.std.proofs.lemmas.Bool.Decides.{nat_tests}
 use Rattle.std.proofs.lemmas.List.{nil_from_length}
 use Rattle.std.specs.Prelude.{if◌then◌else◌}
@@ -15,7 +15,7 @@ use Rattle.pcm_base.specs.model.Frame.{Frame}
 use Rattle.pcm_base.specs.model.PointerCalls.{on_by}
 use Rattle.pcm_base.specs.model.Program.{Program, Makes}
 use Rattle.pcm_base.specs.model.Stream.{Stream, avail}
-use Rattle.pcm_base.specs.model.Transfer.{frames_or, is_filled, put_next, read_next, read_on, sleeping, stuck, tells, waiting_for, write_on}
+use Rattle.pcm_base.specs.model.Transfer.{frames_or, is_filled, put_next, read_next, read_on, sleeping, stuck, stuck_in, tells, waiting_for, write_on}
 use Rattle.pcm_base.specs.model.Words.{is_draining, is_prepared}
 use Rattle.pcm_laws.specs.Turns.{turn}
 use Rattle.pcm_laws.proofs.Tests.{left, right}
@@ -28,28 +28,22 @@ use Rattle.xfer_loop.proofs.TurnLemmas.{none-test, some-test, starts_by, step-no
 
 -- ---- no frame can move
 
-abbrev stuck_by : Bool → Mode → ClientId → Xfer → List Frame → ℕ → ℕ → Stream → Program
-stuck_by b w c x fs rest m s =
-    if b then Makes (act.Stop state.Setup) s (λ o. tells (reply.Frames m) x fs)
-    else elim w as (λ _. Program) [
-      | mode.NonBlock ↦ tells (frames_or m errno.Eagain) x fs s
-      | mode.Block ↦ tells reply.Asleep x fs (sleeping (waiting_for c x rest m (min rest s.setup.sw.avail_min)) s)
-    ]
+abbrev stuck_by : Bool → Mode → ClientId → Xfer → List Frame → ℕ → Stream → Program
+stuck_by b w c x fs rest s = if b then Makes (act.Stop state.Setup) s (λ o. tells (reply.Frames (x.moved + length fs)) x fs) else stuck_in w c x fs rest s
 
 abbrev answer_by : Bool → Mode → ℕ → Stream → XferStep
 answer_by b w rest s = if b then step.Drained else elim w as (λ _. XferStep) [ mode.NonBlock ↦ step.Refuse errno.Eagain | mode.Block ↦ step.Wait (min rest s.setup.sw.avail_min) ]
 
-stuck-by : (b : Bool) (w : Mode) (c : ClientId) (x y : Xfer) (fs : List Frame) (s : Stream) → stuck_by b w c x fs y.rest y.moved s ≡ after_stuck c x y fs s (answer_by b w y.rest s)
-stuck-by true w c x y fs s = refl
-stuck-by false mode.NonBlock c x y fs s = refl
-stuck-by false mode.Block c x y fs s = refl
-
 stuck-after : (c : ClientId) (x y : Xfer) (fs : List Frame) (s : Stream) → IsOnTheWay x y fs → stuck c x fs y.rest s ≡ after_stuck c x y fs s (stuck_step y s)
 stuck-after c x y fs s h =
-    ap (λ m. stuck_by (not x.writing && is_draining s.state) x.mode c x fs y.rest m s) h.moved
-    ∙ ap (λ b. stuck_by (not b && is_draining s.state) x.mode c x fs y.rest y.moved s) h.writing
-    ∙ ap (λ w. stuck_by (not y.writing && is_draining s.state) w c x fs y.rest y.moved s) h.mode
-    ∙ stuck-by (not y.writing && is_draining s.state) y.mode c x y fs s
+    ap (λ b. stuck_by (not b && is_draining s.state) x.mode c x fs y.rest s) h.writing
+    ∙ ap (λ w. stuck_by (not y.writing && is_draining s.state) w c x fs y.rest s) h.mode
+    ∙ by (not y.writing && is_draining s.state) y.mode
+  where
+    by : (b : Bool) (w : Mode) → stuck_by b w c x fs y.rest s ≡ after_stuck c x y fs s (answer_by b w y.rest s)
+    by true w = ap (λ (m : ℕ). Makes (act.Stop state.Setup) s (λ o. tells (reply.Frames m) x fs)) h.moved
+    by false mode.NonBlock = ap (λ (m : ℕ). tells (frames_or m errno.Eagain) x fs s) h.moved
+    by false mode.Block = ap (λ (m : ℕ). tells reply.Asleep x fs (sleeping (waiting_for c x y.rest m (min y.rest s.setup.sw.avail_min)) s)) h.moved
 
 -- the answer where no frame can move is none of those after which the loop goes on
 write-stuck : (c : ClientId) (x y : Xfer) (fs ws : List Frame) (s : Stream) → after_stuck c x y fs s (stuck_step y s) ≡ write_after c x y fs ws s (stuck_step y s)

@@ -108,28 +108,34 @@ decide (k ∷ ks) (vote.Refuse e ∷ vs) = outcome.Refused k e
 decide (k ∷ ks) (vote.Fail ∷ vs) = outcome.Failed k
 decide _ _ = outcome.Done
 
--- the effect of a drain
+-- The effect of a drain, by direction and state: what was written is played, what was recorded can still be read, and where nothing is left the stream stops.
+abbrev pub drained_from : Dir → State → Stream → Stream
+drained_from dir.Playback state.Prepared s = if nat_lt (avail s) s.setup.buffer then fill (set_runs true (set_state state.Draining s)) else set_state state.Setup s
+drained_from dir.Playback state.Running s = set_state state.Draining s
+drained_from dir.Playback state.Xrun s = set_state state.Setup s
+drained_from dir.Capture state.Running s = set_runs false (if nat_lt 0 (avail s) then set_state state.Draining s else set_state state.Setup s)
+drained_from _ _ s = s
+
 abbrev pub drained : Stream → Stream
-drained s = elim s.dir [
-  | dir.Playback ↦ elim s.state [
-    | state.Prepared ↦ if nat_lt (avail s) s.setup.buffer then fill (set_runs true (set_state state.Draining s)) else set_state state.Setup s
-    | state.Running ↦ set_state state.Draining s
-    | state.Xrun ↦ set_state state.Setup s
-    | _ ↦ s
-  ]
-  | dir.Capture ↦ elim s.state [
-    | state.Running ↦ set_runs false (if nat_lt 0 (avail s) then set_state state.Draining s else set_state state.Setup s)
-    | _ ↦ s
-  ]
-]
+drained s = drained_from s.dir s.state s
 
--- the effect of a stop to state t; nothing in OPEN, CLOSED and DISCONNECTED
+-- The effect of a stop to state t, by the state before: nothing in OPEN, CLOSED and DISCONNECTED.
+abbrev pub stopped_in : State → State → Stream → Stream
+stopped_in state.Opened t s = s
+stopped_in state.Closed t s = s
+stopped_in state.Disconnected t s = s
+stopped_in _ t s = set_runs false (record s { state = t; kept = None })
+
 abbrev pub stopped : State → Stream → Stream
-stopped t s = elim s.state [ state.Opened ↦ s | state.Closed ↦ s | state.Disconnected ↦ s | _ ↦ set_runs false (record s { state = t; kept = None }) ]
+stopped t s = stopped_in s.state t s
 
--- the effect of a resume
+-- the effect of a resume, by the state that was kept
+abbrev pub resumed_to : Option State → Stream → Stream
+resumed_to None s = s
+resumed_to (Some t) s = set_runs (runs_in s.dir t) (record s { state = t; kept = None })
+
 abbrev pub resumed : Stream → Stream
-resumed s = elim s.kept [ None ↦ s | Some t ↦ set_runs (runs_in s.dir t) (record s { state = t; kept = None }) ]
+resumed s = resumed_to s.kept s
 
 -- the effect of an act that is done
 abbrev pub done : Act → Stream → Stream

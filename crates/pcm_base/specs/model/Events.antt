@@ -15,12 +15,14 @@ use Rattle.pcm_base.specs.declared.config.SwParams.{SwParams}
 use Rattle.pcm_base.specs.declared.format.Access.TheVariants as access
 use Rattle.pcm_base.specs.declared.ids.ClientId.{ClientId}
 use Rattle.pcm_base.specs.declared.reply.Page.{Page}
+use Rattle.pcm_base.specs.declared.reply.Ready.{Ready}
 use Rattle.pcm_base.specs.declared.reply.Ready.TheVariants as ready
 use Rattle.pcm_base.specs.declared.reply.Reply.{Reply}
 use Rattle.pcm_base.specs.declared.reply.Reply.TheVariants as reply
 use Rattle.pcm_base.specs.declared.sleeper.Task.{Task}
 use Rattle.pcm_base.specs.declared.sleeper.Task.TheVariants as task
 use Rattle.pcm_base.specs.declared.sleeper.Xfer.{Xfer}
+use Rattle.pcm_base.specs.declared.state.Dir.{Dir}
 use Rattle.pcm_base.specs.declared.state.Dir.TheVariants as dir
 use Rattle.pcm_base.specs.declared.state.Errno.{Errno}
 use Rattle.pcm_base.specs.declared.state.Errno.TheVariants as errno
@@ -40,11 +42,12 @@ use Rattle.pcm_base.specs.model.Transfer.{frames_or, sleeping, write_on, read_on
 use Rattle.pcm_base.specs.model.Words.{when, ◌then◌, is_playback, is_closed, is_running, is_paused, is_suspended, is_disconnected}
 
 -- what a client sees; zeros where there is no configuration
+abbrev pub page_by : Option Config → Stream → Page
+page_by None s = record { state = s.state; hw = 0; appl = 0; avail = 0 }
+page_by (Some c) s = record { state = s.state; hw = shown s s.at.hw; appl = shown s s.at.appl; avail = avail s }
+
 abbrev pub page : Stream → Page
-page s = elim s.setup.config [
-  | None ↦ record { state = s.state; hw = 0; appl = 0; avail = 0 }
-  | Some c ↦ record { state = s.state; hw = shown s s.at.hw; appl = shown s s.at.appl; avail = avail s }
-]
+page s = page_by s.setup.config s
 
 -- a stream with this set-up, in this state, all positions at p, its card standing and its lists empty
 abbrev pub set_setup : Setup → State → ℕ → Stream → Stream
@@ -105,20 +108,27 @@ drain c m s = unless (table kind.Drain s) s (if is_paused s.state then making ac
 abbrev pub go_on : ClientId → Xfer → List ℕ → Stream → Program
 go_on c x io s = if x.writing then write_on c x [] (drop x.moved (frames_by x.layout s io)) s else read_on c x [] x.rest s
 
--- a waiting transfer
+-- a waiting transfer that goes on where enough frames are available
+abbrev pub go_or_sleep : ClientId → Xfer → ℕ → List ℕ → Stream → Program
+go_or_sleep c x wanted io s = if nat_lt (avail s) wanted then says reply.Asleep s else go_on c x io (left_by c s)
+
+-- the error that ends a waiting transfer in this state
+abbrev pub ends_with : State → Errno
+ends_with state.Suspended = errno.Estrpipe
+ends_with state.Xrun = errno.Epipe
+ends_with state.Draining = errno.Epipe
+ends_with _ = errno.Ebadfd
+
+-- a waiting transfer, by the state and the direction of its stream
+abbrev pub go_transfer_in : State → Dir → ClientId → Xfer → ℕ → List ℕ → Stream → Program
+go_transfer_in state.Prepared d c x wanted io s = go_or_sleep c x wanted io s
+go_transfer_in state.Running d c x wanted io s = go_or_sleep c x wanted io s
+go_transfer_in state.Paused d c x wanted io s = go_or_sleep c x wanted io s
+go_transfer_in state.Draining dir.Capture c x wanted io s = go_on c x io (left_by c s)
+go_transfer_in t d c x wanted io s = says (frames_or x.moved (ends_with t)) (left_by c s)
+
 abbrev pub go_transfer : ClientId → Xfer → ℕ → List ℕ → Stream → Program
-go_transfer c x wanted io s =
-    let gone = left_by c s in
-    let waiting = (if nat_lt (avail s) wanted then says reply.Asleep s else go_on c x io gone) in
-    elim s.state [
-      | state.Prepared ↦ waiting
-      | state.Running ↦ waiting
-      | state.Paused ↦ waiting
-      | state.Suspended ↦ says (frames_or x.moved errno.Estrpipe) gone
-      | state.Xrun ↦ says (frames_or x.moved errno.Epipe) gone
-      | state.Draining ↦ elim s.dir [ dir.Playback ↦ says (frames_or x.moved errno.Epipe) gone | dir.Capture ↦ go_on c x io gone ]
-      | _ ↦ says (frames_or x.moved errno.Ebadfd) gone
-    ]
+go_transfer c x wanted io s = go_transfer_in s.state s.dir c x wanted io s
 
 -- a waiting drain, after it was watched
 abbrev pub go_drain : ClientId → Outcome → Stream → Program
@@ -135,21 +145,28 @@ go_task c (task.Transfer x wanted) io s = go_transfer c x wanted io s
 go_task c task.Drain io s = if is_disconnected s.state then fails errno.Ebadfd (left_by c s) else Makes act.Watch s (go_drain c)
 
 -- a call in progress is entered again, with its own bytes
-abbrev pub go : ClientId → List ℕ → Stream → Program
-go c io s = elim (waiting_of c s.sleepers) [
-  | None ↦ fails errno.Einval s
-  | Some p ↦ if nat_eq (length io) (length_of p s) then go_task c p io s else fails errno.Einval s
-]
+abbrev pub go_call : Option Task → ClientId → List ℕ → Stream → Program
+go_call None c io s = fails errno.Einval s
+go_call (Some p) c io s = if nat_eq (length io) (length_of p s) then go_task c p io s else fails errno.Einval s
 
--- what a poll tells
+abbrev pub go : ClientId → List ℕ → Stream → Program
+go c io s = go_call (waiting_of c s.sleepers) c io s
+
+-- whether as many frames are available as the client waits for
+abbrev pub ready_for : Stream → Ready
+ready_for s = if nat_le s.setup.sw.avail_min (avail s) then ready.Yes else ready.No
+
+-- what a poll tells, by the state and the direction
+abbrev pub ready_in : State → Dir → Stream → Ready
+ready_in state.Running d s = ready_for s
+ready_in state.Prepared d s = ready_for s
+ready_in state.Paused d s = ready_for s
+ready_in state.Draining dir.Playback s = ready.No
+ready_in state.Draining dir.Capture s = if nat_eq (avail s) 0 then ready.Error else ready.Yes
+ready_in _ d s = ready.Error
+
 abbrev pub poll : Stream → Reply
-poll s = reply.Poll (elim s.state [
-  | state.Running ↦ (if nat_le s.setup.sw.avail_min (avail s) then ready.Yes else ready.No)
-  | state.Prepared ↦ (if nat_le s.setup.sw.avail_min (avail s) then ready.Yes else ready.No)
-  | state.Paused ↦ (if nat_le s.setup.sw.avail_min (avail s) then ready.Yes else ready.No)
-  | state.Draining ↦ elim s.dir [ dir.Playback ↦ ready.No | dir.Capture ↦ (if nat_eq (avail s) 0 then ready.Error else ready.Yes) ]
-  | _ ↦ ready.Error
-])
+poll s = reply.Poll (ready_in s.state s.dir s)
 
 -- the frames between the application and the hardware
 abbrev pub delay : Stream → Reply

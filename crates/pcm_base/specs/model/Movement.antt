@@ -2,6 +2,7 @@
 use Rattle.std.specs.Prelude.{ℕ, not, nat_lt, nat_le, List, [], ◌++◌, length, replicate, take, drop, ◌+◌, ◌-◌, ◌*◌, if◌then◌else◌}
 use Rattle.pcm_base.specs.declared.reply.Reply.{Reply}
 use Rattle.pcm_base.specs.declared.reply.Reply.TheVariants as reply
+use Rattle.pcm_base.specs.declared.state.Dir.{Dir}
 use Rattle.pcm_base.specs.declared.state.Dir.TheVariants as dir
 use Rattle.pcm_base.specs.model.Frame.{Frame}
 use Rattle.pcm_base.specs.model.Standing.{put_at, standing_at}
@@ -23,17 +24,29 @@ taken_by n s = standing_at s.puts s.setup.buffer s.at.card n (zero_frame s)
 abbrev pub given_by : ℕ → Stream → List Frame
 given_by n s = padded n s.card.to_give (zero_frame s)
 
+-- the card has moved n frames, by its direction
+abbrev pub carried_by : Dir → ℕ → Stream → Stream
+carried_by dir.Playback n s = record s { card = record s.card { taken = s.card.taken ++ taken_by n s }; at = record s.at { card = s.at.card + n }; moved = s.moved + n }
+carried_by dir.Capture n s = record s { card = record s.card { to_give = drop n s.card.to_give }; puts = put_at s.at.card (given_by n s) s.puts; at = record s.at { card = s.at.card + n }; moved = s.moved + n }
+
 abbrev pub carried : ℕ → Stream → Stream
-carried n s = elim s.dir [
-  | dir.Playback ↦ record s { card = record s.card { taken = s.card.taken ++ taken_by n s }; at = record s.at { card = s.at.card + n }; moved = s.moved + n }
-  | dir.Capture ↦ record s { card = record s.card { to_give = drop n s.card.to_give }; puts = put_at s.at.card (given_by n s) s.puts; at = record s.at { card = s.at.card + n }; moved = s.moved + n }
-]
+carried n s = carried_by s.dir n s
+
+-- the frames that it took
+abbrev pub frames_taken : Dir → ℕ → Stream → List Frame
+frames_taken dir.Playback n s = taken_by n s
+frames_taken dir.Capture n s = []
 
 abbrev pub carried_frames : ℕ → Stream → List Frame
-carried_frames n s = elim s.dir [ dir.Playback ↦ taken_by n s | dir.Capture ↦ [] ]
+carried_frames n s = frames_taken s.dir n s
+
+-- the bytes that it has taken, these among them
+abbrev pub bytes_taken : Dir → ℕ → Stream → ℕ
+bytes_taken dir.Playback n s = (length s.card.taken + n) * s.setup.frame_bytes
+bytes_taken dir.Capture n s = 0
 
 abbrev pub taken_bytes : ℕ → Stream → ℕ
-taken_bytes n s = elim s.dir [ dir.Playback ↦ (length s.card.taken + n) * s.setup.frame_bytes | dir.Capture ↦ 0 ]
+taken_bytes n s = bytes_taken s.dir n s
 
 abbrev pub move : ℕ → Stream → Movement
 move n s =

@@ -70,14 +70,16 @@ tells r x fs s = Ends (record { reply = r; first = (if nat_eq (length fs) 0 then
 abbrev pub waiting_for : ClientId → Xfer → ℕ → ℕ → ℕ → Waiting
 waiting_for c x rest m wanted = record { client = c; task = task.Transfer (record x { rest = rest; moved = m }) wanted }
 
--- In these definitions fs are the frames that this step has moved so far. None of the rest can move now.
+-- In these definitions fs are the frames that this step has moved so far. None of the rest can move now: the call ends or sleeps by its mode.
+abbrev pub stuck_in : Mode → ClientId → Xfer → List Frame → ℕ → Stream → Program
+stuck_in mode.NonBlock c x fs rest s = tells (frames_or (x.moved + length fs) errno.Eagain) x fs s
+stuck_in mode.Block c x fs rest s = tells reply.Asleep x fs (sleeping (waiting_for c x rest (x.moved + length fs) (min rest s.setup.sw.avail_min)) s)
+
+-- or a drain of a capture stream is at its end
 abbrev pub stuck : ClientId → Xfer → List Frame → ℕ → Stream → Program
 stuck c x fs rest s =
     if not x.writing && is_draining s.state then Makes (act.Stop state.Setup) s (λ o. tells (reply.Frames (x.moved + length fs)) x fs)
-    else elim x.mode [
-      | mode.NonBlock ↦ tells (frames_or (x.moved + length fs) errno.Eagain) x fs s
-      | mode.Block ↦ tells reply.Asleep x fs (sleeping (waiting_for c x rest (x.moved + length fs) (min rest s.setup.sw.avail_min)) s)
-    ]
+    else stuck_in x.mode c x fs rest s
 
 -- the frames that can move have moved; rest are left
 abbrev pub after_moves : ClientId → Xfer → List Frame → ℕ → Stream → Program

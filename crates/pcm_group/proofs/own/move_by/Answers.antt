@@ -8,7 +8,7 @@ use Rattle.pcm_base.specs.declared.reply.Reply.{Reply}
 use Rattle.pcm_base.specs.declared.state.Dir.{Dir}
 use Rattle.pcm_base.specs.declared.state.Dir.TheVariants as dir
 use Rattle.pcm_base.specs.model.Events.{event}
-use Rattle.pcm_base.specs.model.Movement.{Movement, given_by, move, taken_by, taken_bytes}
+use Rattle.pcm_base.specs.model.Movement.{Movement, carried_by, given_by, move, taken_by, taken_bytes}
 use Rattle.pcm_base.specs.model.Standing.{put_at}
 use Rattle.pcm_base.specs.model.Stream.{Stream}
 use Rattle.pcm_stream.specs.declared.substream.DmaRefusal.{DmaRefusal}
@@ -20,10 +20,7 @@ use Rattle.pcm_group.proofs.EndedLemmas.{keeps-itself, keeps-same}
 use Rattle.pcm_group.proofs.own.move_by.Goals as goal
 
 -- a movement keeps the calls in progress
-carries : (n : ℕ) (s : Stream) (d : Dir) → KeepsCalls s (elim d as (λ _. Stream) [
-  | dir.Playback ↦ record s { card = record s.card { taken = s.card.taken ++ taken_by n s }; at = record s.at { card = s.at.card + n }; moved = s.moved + n }
-  | dir.Capture ↦ record s { card = record s.card { to_give = drop n s.card.to_give }; puts = put_at s.at.card (given_by n s) s.puts; at = record s.at { card = s.at.card + n }; moved = s.moved + n }
-])
+carries : (n : ℕ) (s : Stream) (d : Dir) → KeepsCalls s (carried_by d n s)
 carries n s dir.Playback = keeps-same s (record s { card = record s.card { taken = s.card.taken ++ taken_by n s }; at = record s.at { card = s.at.card + n }; moved = s.moved + n }) refl refl refl
 carries n s dir.Capture = keeps-same s (record s { card = record s.card { to_give = drop n s.card.to_give }; puts = put_at s.at.card (given_by n s) s.puts; at = record s.at { card = s.at.card + n }; moved = s.moved + n }) refl refl refl
 
