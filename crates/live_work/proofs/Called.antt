@@ -1,5 +1,5 @@
 -- What a pass has called grows from call to call.
-use Rattle.std.proofs.Common.{◌≡◌, ℕ, List, [], ◌∷◌, ◌++◌, refl, sym, ap, ◌∙◌, subst, append-nil, append_assoc}
+use Rattle.std.proofs.Common.{ℕ, List, [], ◌∷◌, ◌++◌, refl, sym, ap, ◌∙◌, subst, append-nil, append_assoc}
 use Rattle.std.specs.Prelude.{map}
 use Rattle.std.proofs.lemmas.List.{map-append}
 use Rattle.pcm_base.specs.declared.config.CardModel.{CardModel}
@@ -10,7 +10,7 @@ use Rattle.floor_rule.specs.declared.rule.Made.{Made}
 use Rattle.floor_rule.specs.declared.rule.Marked.{Marked}
 use Rattle.floor_rule.specs.declared.rule.PassKnows.{PassKnows}
 use Rattle.room_parts.specs.Passes.{PassView}
-use Rattle.live_work.specs.Called.{AllHandedIn, AllStandIn, Call, HandedIn, HasCalled, as_made}
+use Rattle.live_work.specs.Called.{AllHandedIn, AllStandIn, Call, HasCalled, as_made}
 
 holds_all : (l : Lists) → HoldsMore l l
 holds_all l = record { logs = λ j i e s. s; calls = λ p n c s. s }

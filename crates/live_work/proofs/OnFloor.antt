@@ -1,14 +1,15 @@
 -- What a floor tells of a pass is what a worker needs.
-use Rattle.std.proofs.Common.{◌≡◌, ◌⊎◌, ℕ, Bool, true, false, nat_eq, leb, List, [], ◌∷◌, length, Some, inl, inr, if◌then◌else◌, slice_get, refl, sym, ap, ◌∙◌, subst, arith, append-nil}
+use Rattle.std.proofs.Common.{◌≡◌, ◌⊎◌, ℕ, Bool, true, false, nat_eq, leb, List, [], ◌∷◌, ◌++◌, length, Some, inl, inr, if◌then◌else◌, slice_get, refl, sym, ap, ◌∙◌, subst, arith, append-nil}
 use Rattle.std.proofs.lemmas.Bool.Decides.{nat_tests}
-use Rattle.pcm_base.specs.declared.call.Call.TheVariants.{Link, Unlink}
 use Rattle.pcm_base.specs.declared.call.Event.{Event}
 use Rattle.pcm_base.specs.declared.config.CardModel.{CardModel}
 use Rattle.pcm_base.specs.declared.ids.SubId.{SubId}
 use Rattle.pcm_base.specs.declared.reply.Reply.{Reply}
 use Rattle.pcm_base.specs.declared.state.Dir.{Dir}
 use Rattle.floor_rule.specs.Lists.{longer, longest}
+use Rattle.floor_rule.specs.Marks.{is_call}
 use Rattle.floor_rule.specs.Steps.{HoldsMore}
+use Rattle.floor_rule.specs.declared.rule.Made.{Made}
 use Rattle.floor_rule.specs.declared.rule.Marked.{Marked}
 use Rattle.room_parts.specs.Passes.{PassView}
 use Rattle.room_parts.specs.Recs.{RecView}
@@ -47,6 +48,11 @@ longest_stands : (j : ℕ) (ps : List (ℕ × List Marked)) → AllStandIn ps j 
 longest_stands j [] i e at = absurd (cc)
 longest_stands j (p ∷ ps) i e at = or_so (λ rest. longest_stands j ps i e rest) (in_either (nat_eq p.0 j) p.0 j p.1 (longest j ps) i e refl at)
 
+-- what stands at the end of a list
+at_end : {A : Type 0} (xs : List A) (a : A) → slice_get (xs ++ a ∷ []) (length xs) ≡ Some a
+at_end [] a = refl
+at_end (x ∷ xs) a = at_end xs a
+
 module _ (cards : List (CardModel × Dir)) (long_max : ℕ) where
   -- a call that was answered
 
@@ -64,7 +70,18 @@ module _ (cards : List (CardModel × Dir)) (long_max : ℕ) where
         held = held;
         same = (k.same.0, k.same.1);
       } in
-      record { called = called; busy = k.busy }
+      record {
+        called = called;
+        answered = record {
+          made = ap (λ (ms : List Made). slice_get ms (length p.knows.calls)) k.calls ∙ at_end p.knows.calls (record { event = e; count = length io });
+          place = receipt.index;
+          entry = k.has.entry;
+          stands = told_stands e.sub receipt q is receipt.index k.has.entry k.has.at;
+          call = subst (λ (n : ℕ). is_call n (length p.knows.calls) k.has.entry.mark ≡ true) (sym k.same.1) k.has.call;
+          tells = k.has.tells;
+        };
+        busy = k.busy;
+      }
 
   -- one that was refused
 

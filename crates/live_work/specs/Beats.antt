@@ -1,5 +1,5 @@
 -- The events of a card's worker. This project's own.
-use Rattle.std.specs.Prelude.{◌≡◌, ℕ, zero, suc, List, [], ◌∷◌, ◌++◌}
+use Rattle.std.specs.Prelude.{ℕ, zero, suc, List, [], ◌∷◌, ◌++◌}
 use Rattle.std.specs.declared.option.Option.TheVariants.{None}
 use mathlib.Core.List.{IsPrefix}
 use Rattle.pcm_base.specs.declared.call.Call.{Call as CoreCall}

@@ -1,18 +1,21 @@
 -- What a pass has called, each call with the bytes that it was handed. This project's own.
-use Rattle.std.specs.Prelude.{◌≡◌, ⊤, ℕ, List, [], ◌∷◌, ◌++◌, length, map, slice_get}
+use Rattle.std.specs.Prelude.{◌≡◌, ⊤, ℕ, true, List, [], ◌∷◌, ◌++◌, length, map, slice_get}
 use Rattle.std.specs.declared.option.Option.TheVariants.{Some}
 use Rattle.pcm_base.specs.declared.call.Call.{Call as CoreCall}
 use Rattle.pcm_base.specs.declared.call.Call.TheVariants.{Link, Unlink}
 use Rattle.pcm_base.specs.declared.call.Event.{Event}
 use Rattle.pcm_base.specs.declared.config.CardModel.{CardModel}
+use Rattle.pcm_base.specs.declared.reply.Reply.{Reply}
 use Rattle.pcm_base.specs.declared.state.Dir.{Dir}
 use Rattle.floor_rule.specs.Lists.{Stands}
+use Rattle.floor_rule.specs.Marks.{is_call}
 use Rattle.floor_rule.specs.Steps.{HoldsMore}
 use Rattle.floor_rule.specs.declared.rule.Made.{Made}
 use Rattle.floor_rule.specs.declared.rule.Marked.{Marked}
 use Rattle.floor_rule.specs.declared.rule.PassKnows.{PassKnows}
 use Rattle.room_parts.specs.Passes.{PassView}
 use Rattle.room_lock.specs.Handed.{IsHanded}
+use Rattle.room_lock.specs.Known.{IsEntryOf}
 
 -- a call, and the bytes that it was handed
 pub record Call : Type 0 where
@@ -55,3 +58,12 @@ pub record HasCalled (cards : List (CardModel × Dir)) (long_max : ℕ) (calls :
   pub handed : AllHandedIn cards long_max calls receipts q.knows
   pub held : HoldsMore p.knows.held q.knows.held
   pub same : IsSameCaller p q
+
+-- This is call n of the pass, and an entry of it that the pass was told of has this reply.
+pub record WasAnswered (n : ℕ) (c : Call) (reply : Reply) (p : PassKnows) : Type 0 where
+  pub made : slice_get p.calls n ≡ Some (as_made c)
+  pub place : ℕ
+  pub entry : Marked
+  pub stands : Stands p.held.logs c.event.sub.0 place entry
+  pub call : is_call p.number n entry.mark ≡ true
+  pub tells : IsEntryOf c.event reply entry.entry

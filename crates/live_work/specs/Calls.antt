@@ -1,5 +1,5 @@
 -- A worker's call, and what it leaves of the pass. This project's own.
-use Rattle.std.specs.Prelude.{◌≡◌, ◌<◌, ◌≤◌, ℕ, List, [], ◌∷◌, false}
+use Rattle.std.specs.Prelude.{◌≡◌, ◌<◌, ◌≤◌, ℕ, List, [], ◌∷◌, false, length}
 use Rattle.std.specs.declared.option.Option.TheVariants.{Some}
 use Rattle.pcm_base.specs.declared.call.Call.{Call as CoreCall}
 use Rattle.pcm_base.specs.declared.call.Event.{Event}
@@ -12,7 +12,7 @@ use Rattle.pcm_group.specs.Turn.{is_card_event}
 use Rattle.room_parts.specs.Passes.{PassView, asleep_on, client_of}
 use Rattle.room_lock.specs.declared.answer.Answer.{Answer}
 use Rattle.room_lock.specs.declared.answer.Answer.TheVariants.{Done, LogFull, Memory}
-use Rattle.live_work.specs.Called.{Call, HasCalled}
+use Rattle.live_work.specs.Called.{HasCalled, WasAnswered}
 
 -- a call of a caller on a substream
 abbrev pub call_by : PassView → SubId → CoreCall → Event
@@ -25,9 +25,10 @@ pub record IsOwnCall (cards : ℕ) (client : ClientId) (e : Event) : Type 0 wher
   pub card : e.sub.0 < cards
   pub kind : is_card_event e.call ≡ false
 
--- The pass has made this call, and is busy on its substream where it was answered Asleep, and else on none.
+-- The pass has made this call, which was answered so, and is busy on its substream where that was Asleep, and else on none.
 pub record HasMade (cards : List (CardModel × Dir)) (long_max : ℕ) (e : Event) (io : List ℕ) (reply : Reply) (p q : PassView) : Type 0 where
   pub called : HasCalled cards long_max (record { event = e; io = io } ∷ []) p q
+  pub answered : WasAnswered (length p.knows.calls) (record { event = e; io = io }) reply q.knows
   pub busy : q.busy ≡ asleep_on e.sub reply
 
 -- The pass has made no call, and is as busy as it was.
