@@ -1,4 +1,5 @@
 pub mod Called
+pub mod Answering
 pub mod Loading
 pub mod Reporting
 pub mod Saving

@@ -1,11 +1,12 @@
 -- What a pass has called stands in the logs that are gathered.
-use Rattle.std.proofs.Common.{◌≡◌, ◌<◌, ℕ, zero, suc, List, [], ◌∷◌, ◌++◌, length, map, slice_get, Some, inl, inr, sym, ap, ◌∙◌, subst, arith}
+use Rattle.std.proofs.Common.{◌≡◌, ◌<◌, ◌+◌, ℕ, zero, suc, true, List, [], ◌∷◌, ◌++◌, length, map, slice_get, Some, inl, inr, sym, ap, ◌∙◌, subst, arith}
 use Rattle.std.proofs.lemmas.Option.{same_Some, slice_get_within}
 use mathlib.Core.List.{IsPrefix}
 use Rattle.pcm_base.specs.declared.config.CardModel.{CardModel}
 use Rattle.pcm_base.specs.declared.ids.SubId.{SubId}
 use Rattle.pcm_base.specs.declared.state.Dir.{Dir}
 use Rattle.floor_rule.specs.Lists.{AllOf, Stands}
+use Rattle.floor_rule.specs.Marks.{is_call}
 use Rattle.floor_rule.specs.declared.rule.Made.{Made}
 use Rattle.floor_rule.specs.declared.rule.Marked.{Marked}
 use Rattle.floor_rule.specs.declared.rule.PassKnows.{PassKnows}
@@ -15,8 +16,10 @@ use Rattle.room_parts.specs.Passes.{PassView}
 use Rattle.room_lock.specs.Handed.{IsHanded}
 use Rattle.live_plan.specs.declared.plan.Plan.{Plan}
 use Rattle.live_gather.specs.Gathered.{AgreesWith, AreCalls, HasCall}
-use Rattle.live_work.specs.Called.{AllHandedIn, Call, HandedIn, HasCalled, as_made}
-use Rattle.live_top.specs.Outcome.{AreMadeBy, card_count, cards_of}
+use Rattle.live_work.specs.Called.{AllHandedIn, Call, HandedIn, HasCalled, WasAnswered, as_made}
+use Rattle.live_top.specs.Callers.{Answered}
+use Rattle.live_top.specs.Outcome.{AreMadeBy, HaveReplies, card_count, cards_of}
+use Rattle.live_top.specs.Passes.{AreAnswered}
 use Rattle.live_top.proofs.PrefixLemmas.{prefix_at, prefix_of, prefix_take}
 
 -- what stands in a list of j stands in a list of which each of those is a beginning
@@ -73,4 +76,20 @@ module _ (plan : Plan) (logs : ℕ → List Marked) where
             let told = receipt_at (cards_of plan) plan.long_max calls h.receipts q.knows k c (c.event.sub.0, got.1.0) h.handed at is moves in
             let begins = prefix_of told.0 (logs c.event.sub.0) (λ i e in_log. stands_at q.knows.held.logs c.event.sub.0 (logs c.event.sub.0) i e (a.begins c.event.sub.0 got.0) (told.1 i e in_log)) in
             (got.1.0, subst (λ (n : ℕ). HasCall logs n k (as_made c) c.event.sub.0 got.1.0) is_caller got.1.2, handed_in (cards_of plan) plan.long_max c.event.sub told.0 (logs c.event.sub.0) got.1.0 c.io begins told.2);
+      }
+
+  -- what it was answered in these calls stands in the logs
+  pub are_replies : (answered : List Answered) (p q : PassView) (caller : ℕ) → p.knows.calls ≡ [] → q.knows.number ≡ caller → AreAnswered (length p.knows.calls) answered q.knows → AgreesWith (card_count plan) logs q → HaveReplies logs caller answered
+  are_replies answered p q caller none is_caller w a k x at =
+      let zero_more : 0 + k ≡ k = omega arith in
+      let same : length p.knows.calls + k ≡ k = ap (λ (l : List Made). length l + k) none ∙ zero_more in
+      let t : WasAnswered k x.call x.reply q.knows = subst (λ (n : ℕ). WasAnswered n x.call x.reply q.knows) same (w k x at) in
+      let sub = x.call.event.sub.0 in
+      let got = a.receipts k (as_made x.call) t.made in
+      record {
+        place = t.place;
+        entry = t.entry;
+        at = stands_at q.knows.held.logs sub (logs sub) t.place t.entry (a.begins sub got.0) t.stands;
+        call = subst (λ (n : ℕ). is_call n k t.entry.mark ≡ true) is_caller t.call;
+        tells = t.tells;
       }

@@ -1,5 +1,5 @@
 -- What is gathered of a floor whose passes have called a run of a plan.
-use Rattle.std.proofs.Common.{◌≡◌, ◌<◌, ◌+◌, ℕ, zero, suc, Bool, true, false, List, [], ◌∷◌, ◌++◌, length, slice_get, Some, None, refl, sym, ap, ◌∙◌, subst, arith}
+use Rattle.std.proofs.Common.{◌≡◌, ◌<◌, ◌+◌, ℕ, zero, suc, Bool, true, false, List, [], ◌∷◌, ◌++◌, length, map, slice_get, Some, None, refl, sym, ap, ◌∙◌, subst, arith}
 use Rattle.std.specs.declared.option.Option.{Option}
 use Rattle.std.proofs.lemmas.List.{length-map}
 use Rattle.std.proofs.lemmas.Option.{same_Some, slice_get_within}
@@ -17,13 +17,13 @@ use Rattle.live_floor.specs.Rooms.{IsAtRest}
 use Rattle.live_gather.specs.Gathered.{AgreesWith, HasCause}
 use Rattle.live_gather.specs.declared.gathered.Gathered.{Gathered}
 use Rattle.live_plan.specs.declared.plan.Plan.{Plan}
-use Rattle.live_work.specs.Called.{Call, HasCalled}
-use Rattle.live_top.specs.Callers.{IsClientRun, IsClientStart, card_events}
+use Rattle.live_work.specs.Called.{Call}
+use Rattle.live_top.specs.Callers.{Answered, IsClientRun, IsClientStart, answered_for, asked, card_events, is_of_card, is_of_client}
 use Rattle.live_top.specs.Ends.{IsOf, sub_at}
-use Rattle.live_top.specs.Outcome.{AreMadeBy, Played, card_count, cards_of, entries_by}
+use Rattle.live_top.specs.Outcome.{AreMadeBy, HaveReplies, Played, card_count, cards_of, entries_by}
 use Rattle.live_top.specs.Passes.{AreWhose}
-use Rattle.live_top.specs.Played.{HavePlayed, IsGatheredRun, IsRunTo}
-use Rattle.live_top.proofs.MadeLemmas.{are_made}
+use Rattle.live_top.specs.Played.{HasCalledSuch, HavePlayed, IsGatheredRun, IsRunTo}
+use Rattle.live_top.proofs.MadeLemmas.{are_made, are_replies}
 
 at_place : {A : Type 0} (xs : List A) (i : ℕ) → i < length xs → (a : A) × (slice_get xs i ≡ Some a)
 at_place [] i lt = absurd (omega (arith, lt))
@@ -87,37 +87,55 @@ module _ (plan : Plan) (files : Option Files) (clients clients_now of_cards of_c
     (new_clients : OfClients 16 clients) (new_cards : OfCards (card_count plan) of_cards) (whose : AreWhose (card_count plan) clients_now of_cards_now)
     (rest : IsAtRest (cards_of plan) plan.long_max (clients_now ++ of_cards_now) gs) where
   -- the calls of a client's pass, and those of a card's
-  by_client : (c : ℕ) (lt : c < 16) (Is : List Call → Type 0) → ((p q : PassView) → slice_get clients c ≡ Some p → slice_get clients_now c ≡ Some q → (calls : List Call) × Is calls × HasCalled (cards_of plan) plan.long_max calls p q)
-      → (calls : List Call) × Is calls × AreMadeBy plan rest.gathered.logs c calls
-  by_client c lt Is h =
+  by_pass : (caller : ℕ) (p q : PassView) (Is : List Call → Type 0) (answered : List Answered) → p.knows.calls ≡ [] → p.knows.receipts ≡ [] → p.knows.number ≡ caller
+      → HasCalledSuch (cards_of plan) plan.long_max Is answered p q → AgreesWith (card_count plan) rest.gathered.logs q
+      → ((calls : List Call) × Is calls × AreMadeBy plan rest.gathered.logs caller calls) × HaveReplies rest.gathered.logs caller answered
+  by_pass caller p q Is answered none no_receipts number t agreed = (
+    (t.calls, t.such, are_made plan rest.gathered.logs t.calls p q caller none no_receipts number t.called agreed),
+    are_replies plan rest.gathered.logs answered p q caller none (t.called.same.1 ∙ number) t.answers agreed,
+  )
+
+  by_client : (c : ℕ) (lt : c < 16) (Is : List Call → Type 0) (answered : List Answered) → ((p q : PassView) → slice_get clients c ≡ Some p → slice_get clients_now c ≡ Some q → HasCalledSuch (cards_of plan) plan.long_max Is answered p q)
+      → ((calls : List Call) × Is calls × AreMadeBy plan rest.gathered.logs c calls) × HaveReplies rest.gathered.logs c answered
+  by_client c lt Is answered h =
       let at = new_clients.1 c lt in
       let q = at_place clients_now c (subst (λ n. c < n) (sym whose.clients) lt) in
-      let t = h _ q.0 at q.1 in
-      (t.0, t.1, are_made plan rest.gathered.logs t.0 _ q.0 c refl refl refl t.2 (agrees plan (clients_now ++ of_cards_now) gs rest c q.0 (at_front clients_now of_cards_now c q.0 q.1)))
+      by_pass c _ q.0 Is answered refl refl refl (h _ q.0 at q.1) (agrees plan (clients_now ++ of_cards_now) gs rest c q.0 (at_front clients_now of_cards_now c q.0 q.1))
 
-  by_card : (k : ℕ) (lt : k < card_count plan) (Is : List Call → Type 0) → ((p q : PassView) → slice_get of_cards k ≡ Some p → slice_get of_cards_now k ≡ Some q → (calls : List Call) × Is calls × HasCalled (cards_of plan) plan.long_max calls p q)
-      → (calls : List Call) × Is calls × AreMadeBy plan rest.gathered.logs (16 + k) calls
-  by_card k lt Is h =
+  by_card : (k : ℕ) (lt : k < card_count plan) (Is : List Call → Type 0) (answered : List Answered) → ((p q : PassView) → slice_get of_cards k ≡ Some p → slice_get of_cards_now k ≡ Some q → HasCalledSuch (cards_of plan) plan.long_max Is answered p q)
+      → ((calls : List Call) × Is calls × AreMadeBy plan rest.gathered.logs (16 + k) calls) × HaveReplies rest.gathered.logs (16 + k) answered
+  by_card k lt Is answered h =
       let at = new_cards.1 k lt in
       let q = at_place of_cards_now k (subst (λ n. k < n) (sym whose.of_cards) lt) in
       let place : slice_get (clients_now ++ of_cards_now) (16 + k) ≡ Some q.0 = subst (λ n. slice_get (clients_now ++ of_cards_now) (n + k) ≡ Some q.0) whose.clients (behind clients_now of_cards_now k ∙ q.1) in
-      let t = h _ q.0 at q.1 in
-      (t.0, t.1, are_made plan rest.gathered.logs t.0 _ q.0 (16 + k) refl refl refl t.2 (agrees plan (clients_now ++ of_cards_now) gs rest (16 + k) q.0 place))
+      by_pass (16 + k) _ q.0 Is answered refl refl refl (h _ q.0 at q.1) (agrees plan (clients_now ++ of_cards_now) gs rest (16 + k) q.0 place)
 
   run_to : (is_whole : Bool) → HavePlayed (cards_of plan) plan.long_max is_whole plan files clients clients_now of_cards of_cards_now → IsRunTo is_whole plan files rest.gathered.logs
-  run_to true h = record {
-    setup = h.setup;
-    set_up = h.set_up;
-    clients = λ c lt. by_client c lt (λ calls. IsClientRun plan h.setup c calls) (h.clients c);
-    cards = λ k lt. let t = by_card k lt (λ calls. calls ≡ card_events plan h.setup k) (h.cards k) in subst (λ (l : List Call). AreMadeBy plan rest.gathered.logs (16 + k) l) t.1 t.2;
-  }
-  run_to false h = record {
-    setup = h.setup;
-    lines = h.set_up.0;
-    set_up = h.set_up.1;
-    clients = λ c lt. by_client c lt (λ calls. IsClientStart plan h.setup c calls) (h.clients c);
-    cards = λ k lt. by_card k lt (λ calls. IsPrefix calls (card_events plan h.setup k)) (h.cards k);
-  }
+  run_to true h =
+      let asks = map asked h.setup in
+      let client = λ (c : ℕ) (lt : c < 16). by_client c lt (λ calls. IsClientRun plan asks c calls) (answered_for (is_of_client c) h.setup) (h.clients c) in
+      let card = λ (k : ℕ) (lt : k < card_count plan). by_card k lt (λ calls. calls ≡ card_events plan asks k) (answered_for (is_of_card k) h.setup) (h.cards k) in
+      record {
+        setup = h.setup;
+        set_up = h.set_up;
+        clients = λ c lt. (client c lt).0;
+        cards = λ k lt. let t = (card k lt).0 in subst (λ (l : List Call). AreMadeBy plan rest.gathered.logs (16 + k) l) t.1 t.2;
+        client_replies = λ c lt. (client c lt).1;
+        card_replies = λ k lt. (card k lt).1;
+      }
+  run_to false h =
+      let asks = map asked h.setup in
+      let client = λ (c : ℕ) (lt : c < 16). by_client c lt (λ calls. IsClientStart plan asks c calls) (answered_for (is_of_client c) h.setup) (h.clients c) in
+      let card = λ (k : ℕ) (lt : k < card_count plan). by_card k lt (λ calls. IsPrefix calls (card_events plan asks k)) (answered_for (is_of_card k) h.setup) (h.cards k) in
+      record {
+        setup = h.setup;
+        lines = h.set_up.0;
+        set_up = h.set_up.1;
+        clients = λ c lt. (client c lt).0;
+        cards = λ k lt. (card k lt).0;
+        client_replies = λ c lt. (client c lt).1;
+        card_replies = λ k lt. (card k lt).1;
+      }
 
   pub gathered_run : (is_whole : Bool) → HavePlayed (cards_of plan) plan.long_max is_whole plan files clients clients_now of_cards of_cards_now → IsGatheredRun is_whole plan files gs
   gathered_run is_whole h = record {

@@ -5,12 +5,21 @@ use Rattle.std.specs.declared.option.Option.TheVariants.{Some, None}
 use Rattle.pcm_base.specs.declared.call.Event.{Event as CoreEvent}
 use Rattle.pcm_base.specs.declared.ids.ClientId.{ClientId}
 use Rattle.pcm_base.specs.declared.ids.SubId.{SubId}
+use Rattle.pcm_base.specs.declared.reply.Reply.{Reply}
 use Rattle.pcm_line.specs.declared.line.Line.{Line}
 use Rattle.pcm_line.specs.declared.line.Line.TheVariants.{Beat}
 use Rattle.live_plan.specs.declared.plan.Plan.{Plan}
 use Rattle.live_work.specs.Beats.{beats}
 use Rattle.live_work.specs.Called.{Call}
 use Rattle.live_work.specs.Runs.{AreCallsOf}
+
+-- a call of a setup, and its reply
+pub record Answered : Type 0 where
+  pub call : Call
+  pub reply : Reply
+
+abbrev pub asked : Answered → Call
+asked a = a.call
 
 -- whether the event is one of the client of this number, or of the card of the substream of this number
 
@@ -32,6 +41,10 @@ is_of_card k e = is_by_card k e.client e.sub
 abbrev pub calls_for : (CoreEvent → Bool) → List Call → List Call
 calls_for is [] = []
 calls_for is (c ∷ calls) = if is c.event then c ∷ calls_for is calls else calls_for is calls
+
+abbrev pub answered_for : (CoreEvent → Bool) → List Answered → List Answered
+answered_for is [] = []
+answered_for is (a ∷ answered) = if is a.call.event then a ∷ answered_for is answered else answered_for is answered
 
 -- the lines of the client of this number
 abbrev pub lines_of : Plan → ℕ → List Line

@@ -1,5 +1,5 @@
 // The setup of a plan, on the calling thread.
-ghost use Rattle.std.specs.Prelude.{◌≡◌, ◌≢◌, ◌∷◌, [], length, Err, IfErr, OnErr, OnOk, true};
+ghost use Rattle.std.specs.Prelude.{◌≡◌, ◌≢◌, ◌∷◌, [], length, Err, IfErr, IfOk, OnErr, OnOk, Some, true};
 ghost use Rattle.std.specs.List.{AllByRecursion};
 ghost use Rattle.pcm_base.specs.Causes.{Rose};
 ghost use Rattle.pcm_io.specs.Shelf.{Stay};
@@ -11,16 +11,16 @@ ghost use Rattle.live_plan.specs.Sound.{IsSetupLine};
 ghost use Rattle.live_work.specs.Calls.{IsMadeIfDone};
 ghost use Rattle.live_work.specs.Runs.{io_of};
 ghost use Rattle.live_top.specs.Passes.{AreWhose, HaveCalled};
-ghost use Rattle.live_top.specs.Setup.{HaveMade, HaveSetUp, HaveSetUpFirst, IsCallHalt, IsSetupHalt, MayMake};
+ghost use Rattle.live_top.specs.Setup.{HaveFed, HaveMade, HaveSetUp, HaveSetUpFirst, HaveSetUpTo, IsCallHalt, IsSetupHalt, MayMake, at_first, directions};
 ghost use Rattle.live_top.specs.declared.halt.Halt.TheVariants.{Ended};
 
 use crate::files::{has_config, load};
 use crate::halt::Halt;
-use crate::told::Told;
+use crate::told::Known;
 use live_floor::Passes;
 use live_plan::Plan;
 use live_work::{Calls, Links, lent, send};
-use pcm_base::{Bytes, Call, Dir, Event, Model, Name, Reply, SubId};
+use pcm_base::{Bytes, Call, Config, Dir, Event, Model, Name, Reply, SubId};
 use pcm_io::Shelf;
 use pcm_line::Line;
 use pcm_text::Status;
@@ -86,7 +86,7 @@ fn make<N: FloorName, F: Calls<N> + Links<N>, R: Wait>(
     requires whose { AreWhose (length N.cards) passes.old.clients.items passes.old.cards.items }
     requires may { MayMake (length N.cards) event.now io.old }
     ensures whose { AreWhose (length N.cards) passes.new.clients.items passes.new.cards.items }
-    ensures made { OnOk result (HaveCalled N.cards N.long_max (record { event = event.now; io = io.old } ∷ []) passes.old.clients.items passes.new.clients.items passes.old.cards.items passes.new.cards.items) }
+    ensures made { IfOk result (λ answer. HaveCalled N.cards N.long_max (record { call = record { event = event.now; io = io.old }; reply = answer } ∷ []) passes.old.clients.items passes.new.clients.items passes.old.cards.items passes.new.cards.items) }
     ensures none { OnErr result (HaveCalled N.cards N.long_max [] passes.old.clients.items passes.new.clients.items passes.old.cards.items passes.new.cards.items) }
     ensures halted { IfErr result IsCallHalt }
 {
@@ -109,7 +109,7 @@ fn make_planned<N: FloorName, F: Calls<N> + Links<N>, R: Wait>(
     requires whose { AreWhose (length N.cards) passes.old.clients.items passes.old.cards.items }
     requires line { IsSetupLine (length N.cards) (the_line.Event event.now bytes.now) }
     ensures whose { AreWhose (length N.cards) passes.new.clients.items passes.new.cards.items }
-    ensures made { OnOk result (HaveCalled N.cards N.long_max (record { event = event.now; io = io_of event.now.call bytes.now } ∷ []) passes.old.clients.items passes.new.clients.items passes.old.cards.items passes.new.cards.items) }
+    ensures made { IfOk result (λ answer. HaveCalled N.cards N.long_max (record { call = record { event = event.now; io = io_of event.now.call bytes.now }; reply = answer } ∷ []) passes.old.clients.items passes.new.clients.items passes.old.cards.items passes.new.cards.items) }
     ensures none { OnErr result (HaveCalled N.cards N.long_max [] passes.old.clients.items passes.new.clients.items passes.old.cards.items passes.new.cards.items) }
     ensures halted { IfErr result IsCallHalt }
 {
@@ -117,8 +117,7 @@ fn make_planned<N: FloorName, F: Calls<N> + Links<N>, R: Wait>(
     make(rt, floor, passes, event, &mut io)
 }
 
-// The frames of a file are given to the card, where it captures, has a configuration, and the frames are of that. The file is
-// looked at only where the first two are so.
+// The frames of a file are given to the card where they are of this configuration.
 fn feed<N: FloorName, F: Calls<N> + Links<N>, S: Shelf, R: Wait>(
     rt: &R,
     alloc: Global,
@@ -126,22 +125,19 @@ fn feed<N: FloorName, F: Calls<N> + Links<N>, S: Shelf, R: Wait>(
     passes: &mut Passes<N>,
     sub: SubId,
     name: &Name,
-    told: (Dir, Told),
+    config: Config,
     shelf: &mut S,
 ) -> Result<(), Halt>
     requires whose { AreWhose (length N.cards) passes.old.clients.items passes.old.cards.items }
     requires sub { is_declared (length N.cards) sub ≡ true }
     ensures whose { AreWhose (length N.cards) passes.new.clients.items passes.new.cards.items }
-    ensures made { OnOk result (HaveSetUp N.cards N.long_max (S.files shelf.old) (the_line.Feed sub name.now ∷ []) passes.old.clients.items passes.new.clients.items passes.old.cards.items passes.new.cards.items) }
+    ensures made { OnOk result (HaveFed N.cards N.long_max (S.files shelf.old) sub name.now (Some config) passes.old.clients.items passes.new.clients.items passes.old.cards.items passes.new.cards.items) }
     ensures none { OnErr result (HaveCalled N.cards N.long_max [] passes.old.clients.items passes.new.clients.items passes.old.cards.items passes.new.cards.items) }
     ensures halted { IfErr result (IsSetupHalt (S.files shelf.old) (the_line.Feed sub name.now ∷ [])) }
     ensures stay { Stay (S.files shelf.old) (S.files shelf.new) }
     ensures rose { result ≡ Err (Ended ShelfFault) → Rose (S.faults shelf.old) (S.faults shelf.new) }
     ensures calm { result ≢ Err (Ended ShelfFault) → S.faults shelf.new ≡ S.faults shelf.old }
 {
-    let (Dir::Capture, Told::Configured(config)) = told else {
-        return Ok(());
-    };
     let mut wav = load(alloc, name, shelf)?;
     if !has_config(&wav, &config) {
         return Ok(());
@@ -162,16 +158,17 @@ fn set_up_line<N: FloorName, F: Calls<N> + Links<N>, S: Shelf, R: Wait>(
     floor: &F,
     passes: &mut Passes<N>,
     cards: &[(Model, Dir)],
-    told: &mut [Told],
+    known: &mut Known,
     line: &Line,
     shelf: &mut S,
 ) -> Result<(), Halt>
     requires whose { AreWhose (length N.cards) passes.old.clients.items passes.old.cards.items }
     requires line { IsSetupLine (length N.cards) line.now }
     requires cards { length cards.now ≡ length N.cards }
-    requires told { length told.old ≡ length N.cards }
+    requires known { length known.old.told.items ≡ length N.cards }
     ensures whose { AreWhose (length N.cards) passes.new.clients.items passes.new.cards.items }
-    ensures made { OnOk result (HaveSetUp N.cards N.long_max (S.files shelf.old) (line.now ∷ []) passes.old.clients.items passes.new.clients.items passes.old.cards.items passes.new.cards.items) }
+    ensures known { length known.new.told.items ≡ length N.cards }
+    ensures made { OnOk result (HaveSetUpTo N.cards N.long_max (record { dirs = directions cards.now; files = S.files shelf.old; told = known.old.told.items }) (line.now ∷ []) known.new.told.items passes.old.clients.items passes.new.clients.items passes.old.cards.items passes.new.cards.items) }
     ensures none { OnErr result (HaveCalled N.cards N.long_max [] passes.old.clients.items passes.new.clients.items passes.old.cards.items passes.new.cards.items) }
     ensures halted { IfErr result (IsSetupHalt (S.files shelf.old) (line.now ∷ [])) }
     ensures stay { Stay (S.files shelf.old) (S.files shelf.new) }
@@ -181,15 +178,13 @@ fn set_up_line<N: FloorName, F: Calls<N> + Links<N>, S: Shelf, R: Wait>(
     match line {
         Line::Event(event, bytes) => {
             let reply = make_planned(rt, alloc, floor, passes, event, bytes)?;
-            let at = usize::from(event.sub.0);
-            told[at] = told[at].after(event.call, reply);
+            known.learn(event, reply);
             Ok(())
         }
-        Line::Feed(sub, name) => {
-            let at = usize::from(sub.0);
-            let known = (cards[at].1, told[at]);
-            feed(rt, alloc, floor, passes, *sub, name, known, shelf)
-        }
+        Line::Feed(sub, name) => match known.to_feed(cards[usize::from(sub.0)].1, *sub) {
+            Some(config) => feed(rt, alloc, floor, passes, *sub, name, config, shelf),
+            None => Ok(()),
+        },
         _ => Ok(()),
     }
 }
@@ -207,17 +202,17 @@ pub(crate) fn set_up<N: FloorName, F: Calls<N> + Links<N>, S: Shelf, R: Wait>(
     requires lines { AllByRecursion (IsSetupLine (length N.cards)) plan.now.setup.items }
     requires cards { length N.cards ≡ length plan.now.cards.items }
     ensures whose { AreWhose (length N.cards) passes.new.clients.items passes.new.cards.items }
-    ensures made { OnOk result (HaveSetUp N.cards N.long_max (S.files shelf.old) plan.now.setup.items passes.old.clients.items passes.new.clients.items passes.old.cards.items passes.new.cards.items) }
-    ensures first { OnErr result (HaveSetUpFirst N.cards N.long_max (S.files shelf.old) plan.now.setup.items passes.old.clients.items passes.new.clients.items passes.old.cards.items passes.new.cards.items) }
+    ensures made { OnOk result (HaveSetUp N.cards N.long_max (at_first plan.now.cards.items (S.files shelf.old)) plan.now.setup.items passes.old.clients.items passes.new.clients.items passes.old.cards.items passes.new.cards.items) }
+    ensures first { OnErr result (HaveSetUpFirst N.cards N.long_max (at_first plan.now.cards.items (S.files shelf.old)) plan.now.setup.items passes.old.clients.items passes.new.clients.items passes.old.cards.items passes.new.cards.items) }
     ensures halted { IfErr result (IsSetupHalt (S.files shelf.old) plan.now.setup.items) }
     ensures stay { Stay (S.files shelf.old) (S.files shelf.new) }
     ensures rose { result ≡ Err (Ended ShelfFault) → Rose (S.faults shelf.old) (S.faults shelf.new) }
     ensures calm { result ≢ Err (Ended ShelfFault) → S.faults shelf.new ≡ S.faults shelf.old }
 {
     let cards = plan.cards.as_slice();
-    let mut told = vec![in alloc; Told::Closed; cards.len()]?;
+    let mut known = Known::new(alloc, cards.len())?;
     'lines: for line in &plan.setup {
-        set_up_line(rt, alloc, floor, passes, cards, &mut told, line, shelf)?;
+        set_up_line(rt, alloc, floor, passes, cards, &mut known, line, shelf)?;
     }
     Ok(())
 }
