@@ -1,4 +1,5 @@
-// The three passes of an act over a group, and the undo of the second (`snd_pcm_action_group`).
+// The three passes of an act over a group, and the undo of the second (`snd_pcm_action_group`; here members are asked in link
+// order, where the kernel asks the newest first, and an undo cannot fail).
 ghost use Rattle.std.specs.Prelude.{◌≡◌, ◌<◌, ◌≤◌, ℕ, List, true, length, IfNone, IfSome};
 ghost use Rattle.pcm_base.specs.model.Acts.{acted, members_after};
 ghost use Rattle.pcm_base.specs.model.Sound.{is_stop};

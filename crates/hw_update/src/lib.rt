@@ -1,7 +1,8 @@
 //! The reported hardware pointer: how a card's position, which is told modulo the buffer, moves it on.
 //!
 //! It stands on the shape of `pcm_base`. The source is `snd_pcm_update_hw_ptr0` of `pcm_lib.c`: a base pointer says
-//! where the card's buffer begins, and moves on by one buffer where the card has begun again.
+//! where the card's buffer begins, and moves on by one buffer where the card has begun again. Its checks by time are left out,
+//! since no card may go round a whole buffer before that is reported.
 #![tactic(auto)]
 
 ghost use Rattle.std.specs.Prelude.{◌≡◌, ℕ, ◌+◌, ◌-◌, ◌%◌, ◌<◌, ◌≤◌};

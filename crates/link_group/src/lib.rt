@@ -1,5 +1,5 @@
-//! Members that join a group and leave it (`snd_pcm_link` and `snd_pcm_unlink` of `pcm_native.c`). Their streams and the
-//! calls in progress on them stay as they are.
+//! Members that join a group and leave it (`snd_pcm_link` and `snd_pcm_unlink` of `pcm_native.c`; one that joins comes last
+//! here, where the kernel puts it first). Their streams and the calls in progress on them stay as they are.
 //!
 //! It stands on `pcm_stream`.
 #![tactic(auto)]

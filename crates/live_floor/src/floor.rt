@@ -1,4 +1,5 @@
-// A floor.
+// A floor, its calls and its pages. What else it does stands in `floor_links.rt` and `floor_unlinks.rt`, and how it is taken apart
+// in `floor_gather.rt`.
 ghost use Rattle.std.specs.Prelude.{◌≡◌, ◌≢◌, ◌≤◌, ◌<◌, ◌+◌, ◌^◌, ℕ, [], true, length, map, vec_len, vec_capacity, IfOk, IfSome};
 ghost use Rattle.std.specs.Option.{ForSome, is_none};
 ghost use Rattle.std.specs.Sync.Mutex.{mutex_guard_value};

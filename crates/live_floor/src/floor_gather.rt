@@ -1,4 +1,4 @@
-// A floor whose calls are over is taken apart, and gathered.
+// A floor whose calls are over is taken apart, and gathered (the rest of the type: `floor.rt`).
 ghost use Rattle.std.specs.Prelude.{◌≡◌, ◌≤◌, ◌+◌, ◌++◌, length, vec_len, vec_capacity};
 ghost use Rattle.live_gather.specs.Pieces.{with_logs};
 ghost use Rattle.live_floor.specs.Rooms.{AreTaken, IsAtRest, IsFit};

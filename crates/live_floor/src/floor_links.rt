@@ -1,4 +1,5 @@
-// Links on a floor. The lock of links orders them, and under it the rooms that one touches are locked in order of number.
+// Links on a floor (the rest of the type: `floor.rt`). The lock of links orders them, and under it the rooms that one touches
+// are locked in order of number.
 ghost use Rattle.std.specs.Prelude.{◌≡◌, ◌≢◌, ◌<◌, true, false, length, IfSome};
 ghost use Rattle.std.specs.Option.{is_none};
 ghost use Rattle.std.specs.declared.option.Option.TheVariants.{None as Nowhere};

@@ -1,5 +1,5 @@
-// Unlinks on a floor. The lock of links orders them among links, and under it the rooms that one touches are locked in order
-// of number.
+// Unlinks on a floor (the rest of the type: `floor.rt`). The lock of links orders them among links, and under it the rooms that
+// one touches are locked in order of number.
 ghost use Rattle.std.specs.Prelude.{◌≡◌, ◌≢◌, ◌<◌, true, false, length, IfSome};
 ghost use Rattle.std.specs.Option.{is_none};
 ghost use Rattle.std.specs.declared.option.Option.TheVariants.{None as Nowhere};

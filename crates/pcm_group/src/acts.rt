@@ -74,7 +74,7 @@ pub(crate) fn act_alone<C: Card>(members: &mut Members<C>, act: Act, acts: &mut 
 }
 
 /// Reports where the card of the member at this place stands, and stops the group as XRUN where the client has let it run
-/// dry (`snd_pcm_update_hw_ptr`).
+/// dry (`snd_pcm_update_hw_ptr`; the kernel's looks at no state where nothing moved).
 pub(crate) fn refresh<C: Card>(members: &mut Members<C>, place: usize, acts: &mut Acts) -> Updated
     requires place { place < length (members_of members.old) }
     requires few { length acts.old < 3 }

@@ -1,4 +1,6 @@
-// What each event does to a group (the ioctls of `pcm_native.c`).
+// What each event does to a group (the ioctls of `pcm_native.c`; docs/LINUX.md lists where the kernel's do otherwise). What
+// concerns one member alone stands in `own.rt`, `pointers.rt` and `mapped.rt`, transfers in `write_read.rt` and `transfer.rt`, the
+// call that is entered again in `go.rt`.
 ghost use Rattle.std.specs.Prelude.{◌≡◌, ◌≢◌, ◌≤◌, ◌<◌, ◌||◌, ◌&&◌, not, Bool, List, true, false, [], length, nat_lt, MatchResult, None, Some, slice_get};
 ghost use Rattle.std.specs.Option.{ForSome, is_none, is_some};
 ghost use Rattle.pcm_base.specs.declared.act.Act.TheVariants as act;
@@ -103,7 +105,8 @@ fn is_shut(state: State, call: Call) -> bool
     }
 }
 
-// A paused or suspended member is stopped first.
+// A paused or suspended member is stopped first (`snd_pcm_prepare`, which releases a paused card before that, and whose stop
+// wakes all; here a card that stands gets no trigger, and who may wait sleeps on).
 fn prepare<C: Card>(members: &mut Members<C>, place: usize, acts: &mut Acts) -> Reply
     requires place { place < length (members_of members.old) }
     requires few { length acts.old < 3 }
@@ -412,7 +415,8 @@ fn release_and_drain<C: Card>(
     }
 }
 
-/// A drain. A paused group is released first.
+/// A drain. A paused group is released first (`snd_pcm_drain`, which passes over a release or a start that fails; here the
+/// drain answers its error).
 pub(crate) fn drain<C: Card>(
     members: &mut Members<C>,
     place: usize,

@@ -1,5 +1,6 @@
 // A call in progress that is entered again (the wait loops of `__snd_pcm_lib_xfer` and `snd_pcm_drain` after they are woken;
-// that a client enters its call again by a call of its own, with the call's bytes, is this project's own).
+// that a client enters its call again by a call of its own, with the call's bytes, is this project's own, and so is that a
+// drain tells a suspend with ESTRPIPE and a reader gets the frames that a drain has left).
 ghost use Rattle.std.specs.Prelude.{◌≡◌, ◌≢◌, ◌≤◌, ◌<◌, ℕ, Bool, List, [], length, true, false, if◌then◌else◌, IfSome, Some};
 ghost use Rattle.pcm_base.specs.declared.call.Call.TheVariants as call;
 ghost use Rattle.pcm_base.specs.declared.ids.ClientId.{ClientId as ClientIdOf};

@@ -1,4 +1,5 @@
-// The events that move the application pointer (`snd_pcm_rewind`, `snd_pcm_forward` and `snd_pcm_sync_ptr`).
+// The events that move the application pointer (`snd_pcm_rewind`, `snd_pcm_forward` and `snd_pcm_sync_ptr`; the kernel's wake
+// nobody, where here the check at the end of a step does, and a sync in OPEN is EBADFD here).
 ghost use Rattle.std.specs.Prelude.{◌≡◌, ◌≢◌, ◌<◌, Bool, List, true, [], length};
 ghost use Rattle.pcm_base.specs.declared.call.Call.TheVariants as call;
 ghost use Rattle.pcm_base.specs.declared.ids.ClientId.{ClientId};

@@ -1,4 +1,5 @@
-// The turns of a transfer on one member (the loop of `__snd_pcm_lib_xfer` in `pcm_lib.c`).
+// The turns of a transfer on one member (the loop of `__snd_pcm_lib_xfer` in `pcm_lib.c`, which looks at the state once more at
+// its end, and has one wanted number for all clients; here each call in progress has its own).
 ghost use Rattle.std.specs.Prelude.{◌≡◌, ◌≢◌, ◌+◌, ◌-◌, ◌≤◌, ◌<◌, Bool, IsSome, List, [], drop, length, nat_eq, true, if◌then◌else◌};
 ghost use Rattle.std.specs.Option.{ForSome};
 ghost use Rattle.pcm_base.specs.declared.act.Act.TheVariants as act;

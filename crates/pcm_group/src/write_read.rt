@@ -1,5 +1,6 @@
 // How a transfer begins: what it is refused for, the update before it, and the start that a read asks for (the checks of
-// `__snd_pcm_lib_xfer` in `pcm_lib.c`; that bytes are whole frames and the limit of one read are this project's own).
+// `__snd_pcm_lib_xfer` in `pcm_lib.c`, which passes over what its update answers; here EPIPE ends the call before a frame moves.
+// That bytes are whole frames and the limit of one read are this project's own).
 ghost use Rattle.std.specs.Prelude.{◌≡◌, ◌≢◌, ◌+◌, ◌*◌, ◌/◌, ◌^◌, ◌≤◌, ◌<◌, ◌&&◌, not, nat_eq, nat_le, ℕ, Bool, List, [], length, true, false, MatchResult, IfOk, Some};
 ghost use Rattle.std.specs.Option.{is_some};
 ghost use Rattle.pcm_base.specs.declared.config.Config.{Config as ConfigOf};

@@ -1,4 +1,5 @@
-// What an accepted configuration sets up, until it is freed (the part of `struct snd_pcm_runtime` that hw_params fills).
+// What an accepted configuration sets up, until it is freed (the part of `struct snd_pcm_runtime` that hw_params fills). What a
+// substream's call does to it stands beside that call, in `substream/`.
 ghost use Rattle.std.specs.Prelude.{◌≡◌, ◌≤◌, ◌<◌, ◌+◌, ◌-◌, ◌*◌, ◌%◌, ◌/◌, ◌^◌, ℕ, length, vec_len, false, IfOk, IfSome, IsSome, Some, List, slice_range, take, drop};
 ghost use Rattle.std.specs.Option.{ForSome};
 ghost use Rattle.pcm_base.specs.CardFacts.{gave, given_bytes};

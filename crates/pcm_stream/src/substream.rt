@@ -1,4 +1,6 @@
-// A substream: who it is and where it stands.
+// A substream: who it is and where it stands, and its set-up. Its other methods stand in `substream/`: software parameters, what is
+// mapped, and closing in `params.rt`, the pointer calls in `pointers.rt`, what clients get and store in `buffer.rt`, updates and what
+// moves in `moves.rt`, its part in acts in `acts.rt`.
 ghost use Rattle.std.specs.Prelude.{◌≡◌, ◌≢◌, ◌<◌, ◌≤◌, ◌-◌, ◌%◌, ◌^◌, [], true, false, None, Some, length, min, IsSome, OnOk, MatchResult, IfErr, IfSome, IfNone};
 ghost use Rattle.std.specs.Option.{ForSome, ForNone, option_copied, option_map};
 ghost use Rattle.pcm_base.specs.model.Frame.{bytes_of};
@@ -201,8 +203,9 @@ impl<C: Card> Substream<C> {
     }
 
     /// Sets the substream up for a configuration: a buffer of zero bytes, all positions back, the software parameters of the
-    /// start (`snd_pcm_hw_params`). Refused by the error table, EBADFD where mapped, EBUSY where a call is in progress on it
-    /// (`busy`), all with nothing changed; then EINVAL where the card's model does not allow the configuration or `long_max`
+    /// start (`snd_pcm_hw_params`; the kernel's is busy only while bytes are copied, and leaves the pointers to a prepare).
+    /// Refused by the error table, EBADFD where mapped, EBUSY where a call is in progress on it (`busy`), all with nothing
+    /// changed; then EINVAL where the card's model does not allow the configuration or `long_max`
     /// is below four buffers, which frees what was set up; then Memory, with nothing changed.
     pub fn hw_params(&mut self, config: &Config, busy: bool) -> Result<(), HwRefusal>
         ensures ok { (s : Stream) → StandsFor self.old s → OnOk result ((hw_refusal busy s ≡ None) × (accepts s.model s.long_max config.now ≡ true) × StandsFor self.new (configured_by config.now s)) }

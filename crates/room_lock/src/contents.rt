@@ -1,4 +1,4 @@
-// What stands in a room, and one event of a member.
+// What stands in a room, and one event of a member. Members that go out and come in: `moving.rt`.
 ghost use Rattle.std.specs.Prelude.{◌≡◌, ◌≢◌, ◌<◌, ◌≤◌, ◌+◌, ◌-◌, ◌^◌, [], ℕ, List, true, false, length, slice_get, take, vec_len, vec_capacity, IfSome, Some};
 ghost use Rattle.pcm_base.specs.Shape.{IsSoundShape};
 ghost use Rattle.pcm_base.specs.model.Replay.{is_member};

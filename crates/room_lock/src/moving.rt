@@ -1,4 +1,4 @@
-// Members that go out of a room and come into another, with their recs.
+// Members that go out of a room and come into another, with their recs (the rest of the type: `contents.rt`).
 ghost use Rattle.std.specs.Prelude.{◌≡◌, ◌≤◌, ◌<◌, ◌^◌, ◌∷◌, ◌++◌, ◌+◌, [], List, Some, true, false, length, remove, slice_get, vec_len, vec_capacity, IfOk};
 ghost use Rattle.std.specs.Option.{option_to_list, OnSome};
 ghost use Rattle.floor_rule.specs.Causes.{Causes};

@@ -1,7 +1,8 @@
 //! The error table: whether a call is allowed in a state, and which error refuses it.
 //!
 //! It stands on `pcm_base`, whose `specs/model/Permit.antt` is the table. Its source are the checks of states in
-//! `sound/core/pcm_native.c`, in this project's profile; `Closed`, which the kernel does not have, refuses with ENXIO.
+//! `sound/core/pcm_native.c`, in this project's profile, in which capture in DRAINING can be read and a sync in OPEN is refused
+//! by the state; `Closed`, which the kernel does not have, refuses with ENXIO.
 #![tactic(auto)]
 
 ghost use Rattle.std.specs.Prelude.{◌≡◌, ◌≤◌};

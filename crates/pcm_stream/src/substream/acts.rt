@@ -72,8 +72,9 @@ fn vote_able(able: bool, kind: CallKind, state: State, dir: Dir) -> Result<(), E
 impl<C: Card> Substream<C> {
     ghost use Rattle.pcm_stream.specs.StandsFor.{StandsFor, Shows, HasDone, card_of, faults_of, shape_in, tells_plan};
 
-    /// What this member says to an act: its errno where it refuses, the causes in order (`snd_pcm_pre_start` and its
-    /// kin).
+    /// What this member says to an act: its errno where it refuses, the causes in order (`snd_pcm_pre_start` and its kin;
+    /// here a stop is never refused, where the kernel's is in OPEN, and a card that cannot resume is told before the state,
+    /// as one that cannot pause is).
     pub fn vote(&self, act: Act) -> Result<(), Errno>
         ensures { (s : Stream) → StandsFor self.now s → MatchResult result (λ _. pre s act ≡ None) (λ e. pre s act ≡ Some e) }
     {
@@ -225,8 +226,8 @@ impl<C: Card> Substream<C> {
         }
     }
 
-    /// Asks of the card what the act needs of it, where `vote` allows the act (`snd_pcm_do_start` and its kin). A card
-    /// that fails leaves all but its fault plan as before.
+    /// Asks of the card what the act needs of it, where `vote` allows the act (`snd_pcm_do_start` and its kin; here a pause
+    /// makes no update, and a drain whose start fails is refused). A card that fails leaves all but its fault plan as before.
     pub fn do_act(&mut self, act: Act) -> Result<(), CardFailed>
         requires voted { (s : Stream) → StandsFor self.old s → pre s act ≡ None }
         ensures done { (s : Stream) → StandsFor self.old s → OnOk result (HasDone act self.new s) }
@@ -243,7 +244,8 @@ impl<C: Card> Substream<C> {
         }
     }
 
-    /// Takes back what `do_act` asked of the card. Its fault plan has moved on (`snd_pcm_undo_start` and its kin).
+    /// Takes back what `do_act` asked of the card. Its fault plan has moved on (`snd_pcm_undo_start` and its kin; the
+    /// kernel's asks the card by a trigger, which may fail, and this never does).
     pub fn undo_act(&mut self, act: Act)
         ensures undone { (s : Stream) → HasDone act self.old s → StandsFor self.new (asked s act) }
         ensures faults { faults_of self.new ≡ faults_of self.old }
@@ -257,8 +259,8 @@ impl<C: Card> Substream<C> {
         }
     }
 
-    /// What becomes of the member once every card has done its part (`snd_pcm_post_start` and its kin). A stop is to
-    /// SETUP or XRUN.
+    /// What becomes of the member once every card has done its part (`snd_pcm_post_start` and its kin, some of which wake
+    /// sleepers too; here the check at the end of a step does). A stop is to SETUP or XRUN.
     pub fn post_act(&mut self, act: Act)
         requires stop { is_stop act ≡ true }
         ensures done { (s : Stream) → HasDone act self.old s → StandsFor self.new (after act Yes Done s) }

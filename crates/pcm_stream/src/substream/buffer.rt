@@ -97,7 +97,7 @@ impl<C: Card> Substream<C> {
     /// Reads the `count` frames at the application position into the frames of `io` from `first` on, and moves the
     /// position on by them. On capture; at most as many as are available and as the buffer holds. `io` holds whole frames,
     /// one after another, or the samples of channel 0, then those of channel 1 and so on; its other frames stay
-    /// (`__snd_pcm_lib_xfer`).
+    /// (one copy in the loop of `__snd_pcm_lib_xfer`).
     pub fn get_frames(&mut self, layout: Layout, io: &mut [u8], first: u64, count: u64)
         requires shape { IsSome (shape_in self.old) }
         requires whole { ForSome (shape_in self.old) (λ s. AreFrames s io.old) }

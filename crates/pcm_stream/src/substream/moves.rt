@@ -31,7 +31,8 @@ impl<C: Card> Substream<C> {
     ghost use Rattle.pcm_stream.specs.Moving.{CanMove};
 
     /// Reports where the card stands, puts silence ahead of a playback client, and looks whether that ends a drain, which
-    /// it does here, or has to stop the group, which is left to the caller (`snd_pcm_update_hw_ptr`).
+    /// it does here, or has to stop the group, which is left to the caller (`snd_pcm_update_hw_ptr`; the kernel's looks at no
+    /// state where nothing moved, and checks by time as well, which are left out).
     pub fn update(&mut self) -> Updated
         ensures found { (s : Stream) → StandsFor self.old s → result ≡ (update_of s).found }
         ensures model { (s : Stream) → StandsFor self.old s → StandsFor self.new (update_of s).stream }
@@ -97,7 +98,7 @@ impl<C: Card> Substream<C> {
 
     /// Puts the frames `first` to `first + count - 1` of `io` at the application position, which moves on by them. On
     /// playback; at most as many as are available and as the buffer holds. `io` holds whole frames, one after another, or
-    /// the samples of channel 0, then those of channel 1 and so on (`__snd_pcm_lib_xfer`).
+    /// the samples of channel 0, then those of channel 1 and so on (one copy in the loop of `__snd_pcm_lib_xfer`).
     pub fn put_frames(&mut self, layout: Layout, io: &[u8], first: u64, count: u64)
         requires shape { IsSome (shape_in self.old) }
         requires whole { ForSome (shape_in self.old) (λ s. AreFrames s io.now) }

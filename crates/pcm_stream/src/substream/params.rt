@@ -44,8 +44,8 @@ impl<C: Card> Substream<C> {
     ghost use Rattle.pcm_stream.specs.SetUp.{free_refusal, sw_refusal};
     ghost use Rattle.pcm_stream.specs.StandsFor.{StandsFor, card_of, faults_of, shape_in, tells_plan};
 
-    /// Sets the software parameters (`snd_pcm_sw_params`). Refused by the error table, then EINVAL where `check_sw` refuses
-    /// them, with nothing changed.
+    /// Sets the software parameters (`snd_pcm_sw_params`; where the substream runs, the kernel's also puts silence and looks
+    /// at the state). Refused by the error table, then EINVAL where `check_sw` refuses them, with nothing changed.
     pub fn sw_params(&mut self, sw: &SwParams) -> Result<(), Errno>
         ensures ok { (s : Stream) → StandsFor self.old s → OnOk result ((sw_refusal sw.now s ≡ None) × StandsFor self.new (set_sw sw.now s)) }
         ensures refused { (s : Stream) → StandsFor self.old s → IfErr result (λ e. (sw_refusal sw.now s ≡ Some e) × StandsFor self.new s) }
@@ -60,8 +60,9 @@ impl<C: Card> Substream<C> {
         }
     }
 
-    /// Takes down what `hw_params` set up, with the buffer (`snd_pcm_hw_free`). Refused by the error table, EBADFD where
-    /// mapped, EBUSY where a call is in progress on it (`busy`), all with nothing changed.
+    /// Takes down what `hw_params` set up, with the buffer (`snd_pcm_hw_free`; the kernel's is busy only while bytes are
+    /// copied, and leaves the pointers). Refused by the error table, EBADFD where mapped, EBUSY where a call is in progress on
+    /// it (`busy`), all with nothing changed.
     pub fn hw_free(&mut self, busy: bool) -> Result<(), Errno>
         ensures ok { (s : Stream) → StandsFor self.old s → OnOk result ((free_refusal busy s ≡ None) × StandsFor self.new (freed s)) }
         ensures refused { (s : Stream) → StandsFor self.old s → IfErr result (λ e. (free_refusal busy s ≡ Some e) × StandsFor self.new s) }

@@ -81,7 +81,8 @@ impl<C: Card> Substream<C> {
     }
 
     /// Moves the application position to the one that is shown as `p` and leaves fewer frames available than the
-    /// boundary (`snd_pcm_sync_ptr`). EINVAL where `p` is not below the boundary, with nothing changed.
+    /// boundary (`snd_pcm_sync_ptr`; the kernel's lets the very value pass that stands, above the boundary too). EINVAL where
+    /// `p` is not below the boundary, with nothing changed.
     pub fn sync(&mut self, p: u64) -> Result<(), Errno>
         requires shape { IsSome (shape_in self.old) }
         ensures ok { (s : Stream) → StandsFor self.old s → OnOk result ((p < s.setup.boundary) × StandsFor self.new (sync_to p s)) }
