@@ -38,7 +38,7 @@ use Rattle.room_book.specs.declared.book.BookEntry.TheVariants.{In, Out}
 use Rattle.room_parts.specs.Passes.{PassView}
 use Rattle.room_parts.specs.Recs.{RecView, sub_of, subs_of}
 use Rattle.room_lock.specs.declared.recording.Receipt.{Receipt}
-use Rattle.room_lock.specs.declared.unlinking.Told.{Told}
+use Rattle.room_lock.specs.declared.unlinking.UnlinkTold.{UnlinkTold}
 use Rattle.room_lock.specs.Answers.{log_in}
 use Rattle.room_lock.specs.InGroup.{IsPageIn}
 use Rattle.room_lock.specs.InRoom.{AllPlaced, FitsIn, InRoom, IsIn, RoomView}
@@ -185,12 +185,12 @@ home_fits coming same keep law origin cards serial number book m r s q p cause e
 
 -- ---- an unlink is told in the log of k, at place i of room v
 
-pub record ToldIn (cs : List (CardModel × Dir)) (long_max serial : ℕ) (xs : List Member) (v : RoomView) (i : ℕ) (c : ClientId) (k : SubId) (told : Told) (now : List RecView) (p q : PassView) : Type 0 where
+pub record ToldIn (cs : List (CardModel × Dir)) (long_max serial : ℕ) (xs : List Member) (v : RoomView) (i : ℕ) (c : ClientId) (k : SubId) (told : UnlinkTold) (now : List RecView) (p q : PassView) : Type 0 where
   pub fits : FitsIn (fresh_streams cs long_max) (length cs) serial v.number xs v.recs v.book
   pub told_is : IsUnlinkTold i (unlink_by c k) told.reply told.page xs v.recs now p q told.receipt
   pub reply_is : told.reply ≡ unlink_reply told.page.state v.number
 
-module _ {cs : List (CardModel × Dir)} {long_max serial : ℕ} {xs : List Member} {v : RoomView} {i : ℕ} {c : ClientId} {k : SubId} {told : Told} {now : List RecView} {p q : PassView} (t : ToldIn cs long_max serial xs v i c k told now p q) where
+module _ {cs : List (CardModel × Dir)} {long_max serial : ℕ} {xs : List Member} {v : RoomView} {i : ℕ} {c : ClientId} {k : SubId} {told : UnlinkTold} {now : List RecView} {p q : PassView} (t : ToldIn cs long_max serial xs v i c k told now p q) where
   abbrev origin : SubId → Stream
   origin = fresh_streams cs long_max
 
@@ -334,7 +334,7 @@ module _ {cs : List (CardModel × Dir)} {long_max serial : ℕ} {xs : List Membe
       }
 
 -- it is told so
-pub told_in : (cs : List (CardModel × Dir)) (long_max serial : ℕ) (xs : List Member) (v : RoomView) (i : ℕ) (c : ClientId) (k : SubId) (told : Told) (now : List RecView) (p q : PassView) → FitsIn (fresh_streams cs long_max) (length cs) serial v.number xs v.recs v.book
+pub told_in : (cs : List (CardModel × Dir)) (long_max serial : ℕ) (xs : List Member) (v : RoomView) (i : ℕ) (c : ClientId) (k : SubId) (told : UnlinkTold) (now : List RecView) (p q : PassView) → FitsIn (fresh_streams cs long_max) (length cs) serial v.number xs v.recs v.book
     → IsUnlinkTold i (unlink_by c k) told.reply told.page xs v.recs now p q told.receipt → told.reply ≡ unlink_reply told.page.state v.number → ToldIn cs long_max serial xs v i c k told now p q
 told_in cs long_max serial xs v i c k told now p q fits is reply_is = record { fits = fits; told_is = is; reply_is = reply_is }
 

@@ -28,7 +28,7 @@ use Rattle.room_book.specs.declared.book.BookEntry.TheVariants.{In, Out}
 use Rattle.room_parts.specs.Passes.{PassView}
 use Rattle.room_parts.specs.Recs.{RecView, sub_of, subs_of}
 use Rattle.room_lock.specs.declared.recording.Receipt.{Receipt}
-use Rattle.room_lock.specs.declared.unlinking.Told.{Told}
+use Rattle.room_lock.specs.declared.unlinking.UnlinkTold.{UnlinkTold}
 use Rattle.room_lock.specs.Answers.{log_in}
 use Rattle.room_lock.specs.InGroup.{IsPageIn}
 use Rattle.room_lock.specs.InRoom.{FitsIn, RoomView}
@@ -121,7 +121,7 @@ only_member_is j k there = by (nat_eq k.0 j.0) refl there
     by true e h = let n : k.0 ≡ j.0 = grind (arith, nat_tests, e) in ap (λ (i : ℕ). let x : SubId = record { 0 = i } in x) n
     by false e h = absurd (let never : ⊥ = cc in never)
 
-module _ {cs : List (CardModel × Dir)} {long_max serial : ℕ} {xs : List Member} {v : RoomView} {i : ℕ} {c : ClientId} {k : SubId} {told : Told} {now : List RecView} {p p' : PassView} (t : ToldIn cs long_max serial xs v i c k told now p p') where
+module _ {cs : List (CardModel × Dir)} {long_max serial : ℕ} {xs : List Member} {v : RoomView} {i : ℕ} {c : ClientId} {k : SubId} {told : UnlinkTold} {now : List RecView} {p p' : PassView} (t : ToldIn cs long_max serial xs v i c k told now p p') where
   abbrev origin : SubId → Stream
   origin = fresh_streams cs long_max
 

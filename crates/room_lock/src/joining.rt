@@ -53,7 +53,7 @@ pub(crate) struct Spares {
 
 // A link that is told in the logs of two members: what it found and answered, the page of each, and where its entry stands.
 #[derive(Drop)]
-struct Told {
+struct LinkTold {
     link: Linked,
     one: Page,
     two: Page,
@@ -93,7 +93,7 @@ fn tell_link<N: FloorName>(
     client: ClientId,
     from: SubId,
     to: SubId,
-) -> Told
+) -> LinkTold
     requires words { (words.now.table ≡ N.table) × (words.now.cards ≡ length N.cards) }
     requires places { (own < length first.old.recs.items) × (other < length second.old.recs.items) }
     requires first { (numbers_of (members_in first.old.group) ≡ subs_of first.old.recs.items) × HoldsAt (λ r. (sub_of r ≡ from) × (r.knows.sub < length N.cards)) own first.old.recs.items }
@@ -127,7 +127,7 @@ fn tell_link<N: FloorName>(
         &one,
         &two,
     );
-    Told {
+    LinkTold {
         link,
         one,
         two,

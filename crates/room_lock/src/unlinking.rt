@@ -33,7 +33,7 @@ use std::alloc::Global;
 
 /// An unlink that is told in the log of its substream: what it answers, the page of the substream, and where its entry stands.
 #[derive(Drop)]
-pub(crate) struct Told {
+pub(crate) struct UnlinkTold {
     pub(crate) reply: Reply,
     pub(crate) page: Page,
     pub(crate) receipt: Receipt,
@@ -83,7 +83,7 @@ pub(crate) fn tell_unlink<N: FloorName>(
     own: usize,
     client: ClientId,
     sub: SubId,
-) -> Told
+) -> UnlinkTold
     requires words { (words.now.table ≡ N.table) × (words.now.cards ≡ length N.cards) }
     requires place { own < length room.old.recs.items }
     requires members { numbers_of (members_in room.old.group) ≡ subs_of room.old.recs.items }
@@ -113,7 +113,7 @@ pub(crate) fn tell_unlink<N: FloorName>(
         page.state,
         page.hw,
     );
-    Told {
+    UnlinkTold {
         reply,
         page,
         receipt: Receipt { sub, index },
