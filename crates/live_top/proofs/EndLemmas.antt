@@ -18,9 +18,10 @@ use Rattle.live_plan.specs.declared.plan.Plan.{Plan}
 use Rattle.live_plan.specs.Plan.{Answer, Bad, Gives, Over, Whole}
 use Rattle.live_top.specs.Ends.{IsFirstFull, IsReportEnd, ends_text, texts, whole_text}
 use Rattle.live_top.specs.Files.{AreLeft, IsFileEnd, IsSaveEnd, IsSavedUpTo, file_of, saved, with_file}
-use Rattle.live_top.specs.Outcome.{IsStopped, IsWhole, card_count, entries_by, streams_by}
+use Rattle.live_top.specs.Outcome.{IsWhole, card_count, entries_by, streams_by}
 use Rattle.live_top.specs.Played.{IsGatheredRun}
-use Rattle.live_top.specs.RunEnds.{Ends, IsCutBehind, IsCutShort, IsRunEnd, Untouched, status_of}
+use Rattle.live_top.specs.Filling.{can_fill_logs}
+use Rattle.live_top.specs.RunEnds.{Ends, IsCutBehind, IsCutShort, IsFilled, IsRunEnd, Untouched, status_of}
 use Rattle.live_top.specs.Setup.{IsFeedFault}
 use Rattle.live_top.proofs.RunLemmas.{run_start}
 
@@ -106,14 +107,17 @@ saved_up_to streams lines a b c s stay h = record {
 module _ (plan : Plan) (files files_now : Option Files) (gs : List Gathered) (before now : Option (List ℕ)) where
   -- a run that a full log stopped
 
-  pub stopped_end : (value : ℕ) → Stay files files_now → (r : IsGatheredRun false plan files gs) → IsFirstFull (length gs) (entries_by r.played.logs) value
-      → Appends before now (texts (length gs) (streams_by r.played.ends) (entries_by r.played.logs)) → IsStopped plan files files_now before now value
-  stopped_end value stay r full written = record {
-    played = r.played;
-    run = r.run;
-    full = subst (λ n. IsFirstFull n (entries_by r.played.logs) value) r.size full;
-    written = subst (λ n. Appends before now (texts n (streams_by r.played.ends) (entries_by r.played.logs))) r.size written;
-    stored = stay;
+  pub stopped_end : (value : ℕ) → can_fill_logs plan ≡ true → Stay files files_now → (r : IsGatheredRun false plan files gs) → IsFirstFull (length gs) (entries_by r.played.logs) value
+      → Appends before now (texts (length gs) (streams_by r.played.ends) (entries_by r.played.logs)) → IsFilled plan files files_now before now value
+  stopped_end value can stay r full written = record {
+    can = can;
+    stopped = record {
+      played = r.played;
+      run = r.run;
+      full = subst (λ n. IsFirstFull n (entries_by r.played.logs) value) r.size full;
+      written = subst (λ n. Appends before now (texts n (streams_by r.played.ends) (entries_by r.played.logs))) r.size written;
+      stored = stay;
+    };
   }
 
   cut_end : (s : Status) → IsReportEnd s → IsCutShort plan files files_now before now → IsRunEnd plan files files_now before now s

@@ -13,3 +13,4 @@ pub mod PlayedLemmas
 pub mod RunLemmas
 pub mod PlayLemmas
 pub mod EndLemmas
+pub mod CompleteLemmas

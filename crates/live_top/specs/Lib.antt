@@ -6,4 +6,6 @@ pub mod Passes
 pub mod Jobs
 pub mod Outcome
 pub mod Played
+pub mod Filling
 pub mod RunEnds
+pub mod Complete

@@ -13,6 +13,7 @@ use Rattle.live_plan.specs.declared.plan.Plan.{Plan}
 use Rattle.live_plan.specs.Plan.{Answer, Whole, Bad, Over, HasAll}
 use Rattle.live_top.specs.Ends.{whole_text}
 use Rattle.live_top.specs.Files.{IsSavedUpTo}
+use Rattle.live_top.specs.Filling.{can_fill_logs}
 use Rattle.live_top.specs.Outcome.{IsRun, IsRunStart, IsStopped, IsWhole, Played, card_count, entries_by, streams_by}
 use Rattle.live_top.specs.Setup.{IsFeedFault}
 
@@ -39,6 +40,11 @@ pub record IsCutBehind (plan : Plan) (files files_now : Option Files) (before no
   pub written : Appends before now (text_of plan played)
   pub stored : IsSavedUpTo (streams_by played.ends) plan.saves.items files files_now result
 
+-- A full log stopped the run, of a plan that can fill logs.
+pub record IsFilled (plan : Plan) (files files_now : Option Files) (before now : Option (List ℕ)) (value : ℕ) : Type 0 where
+  pub can : can_fill_logs plan ≡ true
+  pub stopped : IsStopped plan files files_now before now value
+
 -- the file that a feed of the setup names ends the run so, and nothing was written
 abbrev pub IsFeedEnd : Plan → Option Files → Option Files → Option (List ℕ) → Option (List ℕ) → Status → Type 0
 IsFeedEnd plan files files_now before now result = IsFeedFault files plan.setup.items result × Untouched files files_now before now
@@ -46,7 +52,7 @@ IsFeedEnd plan files files_now before now result = IsFeedFault files plan.setup.
 -- A run of the plan ends so. Want of memory may come anywhere.
 abbrev pub IsRunEnd : Plan → Option Files → Option Files → Option (List ℕ) → Option (List ℕ) → Status → Type 0
 IsRunEnd plan files files_now before now status.Ok = IsWhole plan files files_now before now
-IsRunEnd plan files files_now before now (status.Limit which.LogEntries value) = IsStopped plan files files_now before now value
+IsRunEnd plan files files_now before now (status.Limit which.LogEntries value) = IsFilled plan files files_now before now value
 IsRunEnd plan files files_now before now (status.Limit which.WavBytes value) = IsFeedEnd plan files files_now before now (status.Limit which.WavBytes value)
 IsRunEnd plan files files_now before now (status.Missing name) = IsFeedEnd plan files files_now before now (status.Missing name)
 IsRunEnd plan files files_now before now (status.BadWav name fault) = IsFeedEnd plan files files_now before now (status.BadWav name fault)

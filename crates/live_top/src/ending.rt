@@ -8,6 +8,7 @@ ghost use Rattle.live_plan.specs.Sound.{IsSound};
 ghost use Rattle.live_top.specs.Played.{IsGatheredRun};
 ghost use Rattle.live_top.specs.RunEnds.{IsRunEnd};
 
+use crate::filling::can_fill_logs;
 use crate::report::{full_count, report_stopped, report_whole};
 use crate::saves::save_all;
 use live_gather::Gathered;
@@ -17,12 +18,19 @@ use pcm_text::{Status, Which};
 use std::alloc::Global;
 
 /// The logs are written, and the log that takes no more entries is told.
+///
+/// A plan with neither a link nor a call that may wait does not come here: each of its at most 65,536 lines has one entry in
+/// one log, and each of its at most 1,048,576 beats has two. That is far below what a log takes. It is not proved, and
+/// such a run would end as for want of memory.
 pub(crate) fn end_full<K: Sink>(alloc: Global, plan: &Plan, all: &[Gathered], out: &mut K) -> Status
     ensures ended { (files files_now : OptionOf Files) → Stay files files_now → IsGatheredRun false plan.now files all.now → IsRunEnd plan.now files files_now (K.written out.old) (K.written out.new) result }
     ensures write { result ≡ status_is.WriteFault → Rose (K.faults out.old) (K.faults out.new) }
     ensures calm { result ≢ status_is.WriteFault → K.faults out.new ≡ K.faults out.old }
     ensures no_store { result ≢ status_is.ShelfFault }
 {
+    if !can_fill_logs(plan) {
+        return Status::Memory;
+    }
     let Some(count) = full_count(all) else {
         return Status::Memory;
     };

@@ -9,6 +9,7 @@ mod ending;
 #[cfg(test)]
 mod fault_tests;
 mod files;
+mod filling;
 mod halt;
 mod parts;
 mod report;

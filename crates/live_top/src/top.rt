@@ -2,7 +2,9 @@
 ghost use Rattle.std.specs.Prelude.{◌≡◌, ◌≢◌, ◌↔◌, [], true, IfSome};
 ghost use Rattle.pcm_base.specs.Causes.{Rose};
 ghost use Rattle.pcm_text.specs.declared.status.Status.TheVariants as status_is;
-ghost use Rattle.live_plan.specs.Plan.{Answer, ComesTo};
+ghost use Rattle.live_plan.specs.Plan.{Answer, ComesTo, IsPlan};
+ghost use Rattle.live_plan.specs.declared.plan.Plan.{Plan as PlanOf};
+ghost use Rattle.live_top.specs.Complete.{IsGoodEnd, IsReady};
 ghost use Rattle.live_top.specs.RunEnds.{Ends, is_given, status_of as status_of_fault};
 
 use crate::run::run_plan;
@@ -36,7 +38,8 @@ fn status_of(fault: PlanError) -> Status
 ///
 /// There are no words, else it is `Usage`. A log that takes no more entries and want of memory stop all workers. After the first the
 /// logs are written all the same, without `end` lines and saves, and the status is the limit with the length of the first log
-/// of more than 16,777,212 entries; after the other nothing is written.
+/// of more than 16,777,212 entries, which comes of no plan without a link and a call that may wait; after the other nothing is
+/// written.
 pub fn live_main<S: Source, K: Sink, F: Shelf, G: Gate + Sync, R: Threads + Wait + Sync>(
     rt: &R,
     alloc: Global,
@@ -51,6 +54,11 @@ pub fn live_main<S: Source, K: Sink, F: Shelf, G: Gate + Sync, R: Threads + Wait
     ensures ends { words.now ≡ [] → IfSome (S.left plan.old) (λ bytes. (answer : Answer) → ComesTo bytes answer
         → Ends answer (F.files shelf.old) (F.files shelf.new) (K.written out.old) (K.written out.new) result) }
     ensures statuses { is_given result ≡ true }
+
+    // A plan whose files are there comes to its end where nothing fails, unless memory runs out or, with a link or a call that may
+    // wait, it fills a log.
+    ensures complete { words.now ≡ [] → (¬ Rose (S.faults plan.old) (S.faults plan.new)) → (¬ Rose (K.faults out.old) (K.faults out.new)) → (¬ Rose (F.faults shelf.old) (F.faults shelf.new))
+        → IfSome (S.left plan.old) (λ bytes. (p : PlanOf) → IsPlan bytes p → IsReady (F.files shelf.old) p → IsGoodEnd p result) }
 
     // ReadFault, WriteFault and ShelfFault come only where the count of faults of the source, the sink or the shelf rose.
     ensures read { result ≡ status_is.ReadFault → Rose (S.faults plan.old) (S.faults plan.new) }
