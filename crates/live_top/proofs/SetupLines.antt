@@ -24,14 +24,14 @@ use Rattle.live_top.specs.Passes.{AreWhose, HaveCalled}
 use Rattle.live_top.specs.Setup.{Before, HaveFed, HaveSetUpFirst, HaveSetUpTo, IsFeedFault, IsFeedOf, IsSetupHalt, IsSetupOf, config_fed, config_to_feed, directions, known, learned}
 use Rattle.live_top.specs.declared.halt.Halt.{Halt}
 use Rattle.live_top.specs.declared.halt.Halt.TheVariants.{Full, Ended}
-use Rattle.live_top.specs.declared.told.Told.{Told}
+use Rattle.live_top.specs.declared.told.Stage.{Stage}
 use Rattle.live_top.proofs.SetupPasses.{both_have, none_have}
 
 -- the calls of lines, and then those of others
-pub setup_both : (dirs : List Dir) (files : Option Files) (told mid now : List Told) (lines others : List Line) (calls more : List Answered) → IsSetupOf dirs files told lines calls mid → IsSetupOf dirs files mid others more now
+pub setup_both : (dirs : List Dir) (files : Option Files) (told mid now : List Stage) (lines others : List Line) (calls more : List Answered) → IsSetupOf dirs files told lines calls mid → IsSetupOf dirs files mid others more now
     → IsSetupOf dirs files told (lines ++ others) (calls ++ more) now
 setup_both dirs files told mid now [] others calls more a b =
-    subst (λ (cs : List Answered). IsSetupOf dirs files told others (cs ++ more) now) (sym a.0) (subst (λ (t : List Told). IsSetupOf dirs files t others more now) a.1 b)
+    subst (λ (cs : List Answered). IsSetupOf dirs files told others (cs ++ more) now) (sym a.0) (subst (λ (t : List Stage). IsSetupOf dirs files t others more now) a.1 b)
 setup_both dirs files told mid now (the_line.Event e bytes ∷ lines) others calls more a b =
     (a.0, a.1 ++ more, ap (λ (cs : List Answered). cs ++ more) a.2, setup_both dirs files (learned told e a.0) mid now lines others a.1 more a.3 b)
 setup_both dirs files told mid now (the_line.Feed k name ∷ lines) others calls more a b =
@@ -61,7 +61,7 @@ feed_back : (files now : Option Files) (k : SubId) (name : List ℕ) (config : O
 feed_back files now k name None own s f = f
 feed_back files now k name (Some c) own s f = (f.0, loaded_back files now name f.0 s f.1, f.2)
 
-pub setup_back : (dirs : List Dir) (files now : Option Files) (told after : List Told) (lines : List Line) (calls : List Answered) → Stay files now → IsSetupOf dirs now told lines calls after → IsSetupOf dirs files told lines calls after
+pub setup_back : (dirs : List Dir) (files now : Option Files) (told after : List Stage) (lines : List Line) (calls : List Answered) → Stay files now → IsSetupOf dirs now told lines calls after → IsSetupOf dirs files told lines calls after
 setup_back dirs files now told after [] calls s a = a
 setup_back dirs files now told after (the_line.Event e bytes ∷ lines) calls s a = (a.0, a.1, a.2, setup_back dirs files now (learned told e a.0) after lines a.1 s a.3)
 setup_back dirs files now told after (the_line.Feed k name ∷ lines) calls s a =
@@ -81,7 +81,7 @@ dir_at [] i d lt = absurd (omega (arith, lt))
 dir_at (c ∷ all) zero d lt = refl
 dir_at (c ∷ all) (suc i) d lt = dir_at all i d (omega (arith, lt))
 
-pub fed_at : (all : List (Model × Dir)) (t : Told) (i k : ℕ) (d : Model × Dir) (o : Option Config) → i ≡ k → k < length all → o ≡ config_to_feed (get_or all i d).1 t → o ≡ config_fed (slice_get (directions all) k) t
+pub fed_at : (all : List (Model × Dir)) (t : Stage) (i k : ℕ) (d : Model × Dir) (o : Option Config) → i ≡ k → k < length all → o ≡ config_to_feed (get_or all i d).1 t → o ≡ config_fed (slice_get (directions all) k) t
 fed_at all t i k d o is lt e =
     e ∙ ap (λ (n : ℕ). config_to_feed (get_or all n d).1 t) is ∙ ap (λ (w : Option Dir). config_fed w t) (sym (dir_at all k d lt))
 
@@ -121,7 +121,7 @@ module _ (cards : List (CardModel × Dir)) (long_max count : ℕ) where
   none_set_up b clients of_cards = ([], (refl, refl), none_have cards long_max clients of_cards)
 
   -- an event was made
-  pub event_set_up : (b : Before) (e : Event) (bytes : List ℕ) (r : Reply) (now : List Told) (cs ds ks ls : List PassView) → now ≡ learned b.told e r
+  pub event_set_up : (b : Before) (e : Event) (bytes : List ℕ) (r : Reply) (now : List Stage) (cs ds ks ls : List PassView) → now ≡ learned b.told e r
       → HaveCalled cards long_max (record { call = record { event = e; io = io_of e.call bytes }; reply = r } ∷ []) cs ds ks ls → HaveSetUpTo cards long_max b (the_line.Event e bytes ∷ []) now cs ds ks ls
   event_set_up b e bytes r now cs ds ks ls is h = (record { call = record { event = e; io = io_of e.call bytes }; reply = r } ∷ [], (r, [], refl, (refl, is)), h)
 
@@ -132,7 +132,7 @@ module _ (cards : List (CardModel × Dir)) (long_max count : ℕ) where
       (h.0, (h.0, [], sym (append-nil h.0), subst (λ (c : Option Config). IsFeedOf b.files k name c h.0) is h.1, (refl, refl)), h.2)
 
   -- the first i lines were made, and then the next one
-  pub next_set_up : (b : Before) (here : Option Files) (mid now : List Told) (lines : List Line) (i : ℕ) (line d : Line) (cs ds es ks ls ms : List PassView) → i < length lines → line ≡ get_or lines i d → Stay b.files here
+  pub next_set_up : (b : Before) (here : Option Files) (mid now : List Stage) (lines : List Line) (i : ℕ) (line d : Line) (cs ds es ks ls ms : List PassView) → i < length lines → line ≡ get_or lines i d → Stay b.files here
       → AreWhose count cs ks → AreWhose count ds ls → HaveSetUpTo cards long_max b (take i lines) mid cs ds ks ls
       → HaveSetUpTo cards long_max (record { dirs = b.dirs; files = here; told = mid }) (line ∷ []) now ds es ls ms
       → HaveSetUpTo cards long_max b (take (i + 1) lines) now cs es ks ms
@@ -142,7 +142,7 @@ module _ (cards : List (CardModel × Dir)) (long_max count : ℕ) where
       (a.0 ++ n.0, subst (λ (ls : List Line). IsSetupOf b.dirs b.files b.told ls (a.0 ++ n.0) now) (sym (take_more lines i d lt)) both, both_have cards long_max count a.0 n.0 cs ds es ks ls ms v w a.2 n.2)
 
   -- no more than the first i lines were made
-  pub first_set_up : (b : Before) (mid : List Told) (lines : List Line) (i : ℕ) (cs ds es ks ls ms : List PassView) → AreWhose count cs ks → AreWhose count ds ls
+  pub first_set_up : (b : Before) (mid : List Stage) (lines : List Line) (i : ℕ) (cs ds es ks ls ms : List PassView) → AreWhose count cs ks → AreWhose count ds ls
       → HaveSetUpTo cards long_max b (take i lines) mid cs ds ks ls → HaveCalled cards long_max [] ds es ls ms → HaveSetUpFirst cards long_max b lines cs es ks ms
   first_set_up b mid lines i cs ds es ks ls ms v w a none =
       (i, (mid, (a.0, a.1, subst (λ (xs : List Answered). HaveCalled cards long_max xs cs es ks ms) (append-nil a.0) (both_have cards long_max count a.0 [] cs ds es ks ls ms v w a.2 none))))

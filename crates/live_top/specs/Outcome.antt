@@ -28,7 +28,7 @@ use Rattle.live_top.specs.Callers.{Answered, IsClientRun, IsClientStart, answere
 use Rattle.live_top.specs.Ends.{IsFirstFull, texts, whole_text}
 use Rattle.live_top.specs.Files.{saved}
 use Rattle.live_top.specs.Setup.{IsSetupOf, at_first}
-use Rattle.live_top.specs.declared.told.Told.{Told}
+use Rattle.live_top.specs.declared.told.Stage.{Stage}
 
 abbrev pub cards_of : Plan → List (CardModel × Dir)
 cards_of plan = map limits plan.cards.items
@@ -74,7 +74,7 @@ HaveReplies logs caller answered = (k : ℕ) (a : Answered) → slice_get answer
 
 -- these are the calls of lines of a plan's setup, with their replies
 abbrev pub IsSetupBy : Plan → Option Files → List Line → List Answered → Type 0
-IsSetupBy plan files lines answered = (now : List Told) × (let b = at_first plan.cards.items files in IsSetupOf b.dirs b.files b.told lines answered now)
+IsSetupBy plan files lines answered = (now : List Stage) × (let b = at_first plan.cards.items files in IsSetupOf b.dirs b.files b.told lines answered now)
 
 -- Of a run that came to its end: the setup's calls are those of its lines, with their replies; each client called what the setup has of it and then its lines; and each card made its events. Client c is the caller of its number, and card k that of 16 + k.
 pub record IsRun (plan : Plan) (files : Option Files) (logs : ℕ → List Marked) : Type 0 where

@@ -31,11 +31,11 @@ use Rattle.live_top.specs.Files.{IsLoadEnd, IsLoaded, is_of_config}
 use Rattle.live_top.specs.Passes.{HaveCalled}
 use Rattle.live_top.specs.declared.halt.Halt.{Halt}
 use Rattle.live_top.specs.declared.halt.Halt.TheVariants.{Full, Ended}
-use Rattle.live_top.specs.declared.told.Told.{Told}
-use Rattle.live_top.specs.declared.told.Told.TheVariants.{Closed, Bare, Configured}
+use Rattle.live_top.specs.declared.told.Stage.{Stage}
+use Rattle.live_top.specs.declared.told.Stage.TheVariants.{Closed, Bare, Configured}
 
 -- What is told of a substream once a call is answered so. A configuration that is refused leaves none.
-abbrev pub after : Told → CoreCall → Reply → Told
+abbrev pub after : Stage → CoreCall → Reply → Stage
 after t call.OpenSub reply.Ok = Bare
 after t call.HwFree reply.Ok = Bare
 after t call.CloseSub reply.Ok = Closed
@@ -43,12 +43,12 @@ after t (call.HwParams c) reply.Ok = Configured c
 after t (call.HwParams c) (reply.Err errno.Einval) = Bare
 after t _ _ = t
 
-abbrev pub known : Option Told → Told
+abbrev pub known : Option Stage → Stage
 known (Some t) = t
 known None = Closed
 
 -- what is told of each substream, with that which the reply to this event tells
-abbrev pub learned : List Told → CoreEvent → Reply → List Told
+abbrev pub learned : List Stage → CoreEvent → Reply → List Stage
 learned told e r = set told e.sub.0 (after (known (slice_get told e.sub.0)) e.call r)
 
 -- the directions of the cards
@@ -56,11 +56,11 @@ abbrev pub directions : List (Model × Dir) → List Dir
 directions cards = map (λ c. c.1) cards
 
 -- the configuration that a feed looks at: that of a substream that captures, where it is told
-abbrev pub config_to_feed : Dir → Told → Option Config
+abbrev pub config_to_feed : Dir → Stage → Option Config
 config_to_feed dir.Capture (Configured c) = Some c
 config_to_feed _ _ = None
 
-abbrev pub config_fed : Option Dir → Told → Option Config
+abbrev pub config_fed : Option Dir → Stage → Option Config
 config_fed (Some d) t = config_to_feed d t
 config_fed None t = None
 
@@ -79,7 +79,7 @@ IsFeedOf files k name None own = own ≡ []
 IsFeedOf files k name (Some c) own = (r : Recording) × IsLoaded files name r × IsGivenIf (is_of_config r c) r.frames k own
 
 -- These are the calls of the lines of a setup, in order, with their replies. What replies have told of the substreams before is `told`, and `now` behind the lines.
-abbrev pub IsSetupOf : List Dir → Option Files → List Told → List Line → List Answered → List Told → Type 0
+abbrev pub IsSetupOf : List Dir → Option Files → List Stage → List Line → List Answered → List Stage → Type 0
 IsSetupOf dirs files told [] answered now = (answered ≡ []) × (now ≡ told)
 IsSetupOf dirs files told (Event e bytes ∷ lines) answered now =
     (r : Reply) × (others : List Answered) × (answered ≡ record { call = record { event = e; io = io_of e.call bytes }; reply = r } ∷ others)
@@ -113,19 +113,19 @@ HaveMade cards long_max Memory e io clients clients_now of_cards of_cards_now = 
 pub record Before : Type 0 where
   pub dirs : List Dir
   pub files : Option Files
-  pub told : List Told
+  pub told : List Stage
 
 -- nothing is told of the substreams of new cards
 abbrev pub at_first : List (Model × Dir) → Option Files → Before
 at_first cards files = record { dirs = directions cards; files = files; told = replicate (length cards) Closed }
 
 -- the calls of these lines were made, and their replies have told this
-abbrev pub HaveSetUpTo : List (CardModel × Dir) → ℕ → Before → List Line → List Told → List PassView → List PassView → List PassView → List PassView → Type 0
+abbrev pub HaveSetUpTo : List (CardModel × Dir) → ℕ → Before → List Line → List Stage → List PassView → List PassView → List PassView → List PassView → Type 0
 HaveSetUpTo cards long_max b lines now clients clients_now of_cards of_cards_now =
     (answered : List Answered) × IsSetupOf b.dirs b.files b.told lines answered now × HaveCalled cards long_max answered clients clients_now of_cards of_cards_now
 
 abbrev pub HaveSetUp : List (CardModel × Dir) → ℕ → Before → List Line → List PassView → List PassView → List PassView → List PassView → Type 0
-HaveSetUp cards long_max b lines clients clients_now of_cards of_cards_now = (now : List Told) × HaveSetUpTo cards long_max b lines now clients clients_now of_cards of_cards_now
+HaveSetUp cards long_max b lines clients clients_now of_cards of_cards_now = (now : List Stage) × HaveSetUpTo cards long_max b lines now clients clients_now of_cards of_cards_now
 
 -- those of so many of the lines, from the first on
 abbrev pub HaveSetUpFirst : List (CardModel × Dir) → ℕ → Before → List Line → List PassView → List PassView → List PassView → List PassView → Type 0

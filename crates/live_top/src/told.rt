@@ -1,14 +1,14 @@
 // What the replies of a setup tell of the substreams.
 ghost use Rattle.std.specs.Prelude.{◌≡◌, ◌<◌, length, replicate, slice_get, IfOk};
 ghost use Rattle.live_top.specs.Setup.{after, config_to_feed, known, learned};
-ghost use Rattle.live_top.specs.declared.told.Told.TheVariants.{Closed};
+ghost use Rattle.live_top.specs.declared.told.Stage.TheVariants.{Closed};
 
 use pcm_base::{Call, Config, Dir, Errno, Event, Reply, SubId};
 use std::alloc::{AllocError, Global};
 
 /// What the replies of a setup so far tell of a substream.
 #[derive(Clone, Copy, Debug, PartialEq, Eq)]
-pub(crate) enum Told {
+pub(crate) enum Stage {
     /// Nobody has it open.
     Closed,
     /// It is open, without a configuration.
@@ -17,16 +17,16 @@ pub(crate) enum Told {
     Configured(Config),
 }
 
-impl Told {
+impl Stage {
     /// What is told once a call is answered so. A configuration that is refused leaves none.
-    pub fn after(self, call: Call, reply: Reply) -> Told
+    pub fn after(self, call: Call, reply: Reply) -> Stage
         ensures { result ≡ after self call reply }
     {
         match (call, reply) {
-            (Call::OpenSub | Call::HwFree, Reply::Ok) => Told::Bare,
-            (Call::CloseSub, Reply::Ok) => Told::Closed,
-            (Call::HwParams(config), Reply::Ok) => Told::Configured(config),
-            (Call::HwParams(_), Reply::Err(Errno::Einval)) => Told::Bare,
+            (Call::OpenSub | Call::HwFree, Reply::Ok) => Stage::Bare,
+            (Call::CloseSub, Reply::Ok) => Stage::Closed,
+            (Call::HwParams(config), Reply::Ok) => Stage::Configured(config),
+            (Call::HwParams(_), Reply::Err(Errno::Einval)) => Stage::Bare,
             _ => self,
         }
     }
@@ -36,7 +36,7 @@ impl Told {
         ensures { result ≡ config_to_feed dir self }
     {
         match (dir, self) {
-            (Dir::Capture, Told::Configured(config)) => Some(config),
+            (Dir::Capture, Stage::Configured(config)) => Some(config),
             _ => None,
         }
     }
@@ -45,7 +45,7 @@ impl Told {
 /// What is told of each substream, by its number.
 #[derive(Drop)]
 pub(crate) struct Known {
-    pub told: Vec<Told>,
+    pub told: Vec<Stage>,
 }
 
 impl Known {
@@ -53,7 +53,7 @@ impl Known {
     pub fn new(alloc: Global, cards: usize) -> Result<Known, AllocError>
         ensures { IfOk result (λ k. k.told.items ≡ replicate cards Closed) }
     {
-        let told = vec![in alloc; Told::Closed; cards]?;
+        let told = vec![in alloc; Stage::Closed; cards]?;
         Ok(Known { told })
     }
 

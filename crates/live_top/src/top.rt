@@ -38,7 +38,7 @@ fn status_of(fault: PlanError) -> Status
 ///
 /// There are no words, else it is `Usage`. A log that takes no more entries and want of memory stop all workers. After the first the
 /// logs are written all the same, without `end` lines and saves, and the status is the limit with the length of the first log
-/// of more than 16,777,212 entries, which comes of no plan without a link and a call that may wait; after the other nothing is
+/// of more than 16,777,212 entries, which comes of no plan that has neither a link nor a call that may wait; after the other nothing is
 /// written.
 pub fn live_main<S: Source, K: Sink, F: Shelf, G: Gate + Sync, R: Threads + Wait + Sync>(
     rt: &R,
