@@ -408,7 +408,7 @@ posted {C} {g} a b old new s e i h er ep shows = record {
 -- ---- what a stream of a runtime is
 
 pub runtime-configured : (r : Runtime) (s : Stream) → RunsFor r s → Sound s → IsConfigured r.config s
-runtime-configured r s h k = configured r.config s h.config k
+runtime-configured r s h k = configured r.config s h.setup.config k
 
 pub and-true : (x y z : Bool) → x ≡ true → y ≡ true → z ≡ (x && y && z)
 and-true true true z e f = refl
@@ -429,15 +429,15 @@ pub lacks-then : (s : Stream) (r : Runtime) (n : ℕ) → s.dir ≡ dir.Playback
 lacks-then s r n way h e low =
     let below : nat_lt r.sw.stop_threshold r.shape.boundary ≡ true = grind (arith, nat_tests, low) in
     let same : nat_lt s.setup.sw.stop_threshold s.setup.boundary ≡ nat_lt r.sw.stop_threshold r.shape.boundary =
-    ap (λ (w : SwParams). nat_lt w.stop_threshold s.setup.boundary) h.sw ∙ ap (λ l. nat_lt r.sw.stop_threshold l) h.boundary in
-    let full : nat_le r.shape.buffer n ≡ nat_le s.setup.buffer (avail s) = ap (λ b. nat_le b n) (sym h.buffer) ∙ ap (λ m. nat_le s.setup.buffer m) e in
+    ap (λ (w : SwParams). nat_lt w.stop_threshold s.setup.boundary) h.setup.sw ∙ ap (λ l. nat_lt r.sw.stop_threshold l) h.setup.boundary in
+    let full : nat_le r.shape.buffer n ≡ nat_le s.setup.buffer (avail s) = ap (λ b. nat_le b n) (sym h.setup.buffer) ∙ ap (λ m. nat_le s.setup.buffer m) e in
     full ∙ and-true (is_playback s.dir) (nat_lt s.setup.sw.stop_threshold s.setup.boundary) (nat_le s.setup.buffer (avail s)) (ap is_playback way) (same ∙ below)
 
 pub lacks-else : (s : Stream) (r : Runtime) → RunsFor r s → r.shape.boundary ≤ r.sw.stop_threshold → nat_lt r.sw.stop_threshold r.shape.boundary ≡ lacks_data s
 lacks-else s r h high =
     let above : nat_lt r.sw.stop_threshold r.shape.boundary ≡ false = grind (arith, nat_tests, high) in
     let same : nat_lt s.setup.sw.stop_threshold s.setup.boundary ≡ nat_lt r.sw.stop_threshold r.shape.boundary =
-    ap (λ (w : SwParams). nat_lt w.stop_threshold s.setup.boundary) h.sw ∙ ap (λ l. nat_lt r.sw.stop_threshold l) h.boundary in
+    ap (λ (w : SwParams). nat_lt w.stop_threshold s.setup.boundary) h.setup.sw ∙ ap (λ l. nat_lt r.sw.stop_threshold l) h.setup.boundary in
     above ∙ and-false (is_playback s.dir) (nat_lt s.setup.sw.stop_threshold s.setup.boundary) (nat_le s.setup.buffer (avail s)) (same ∙ above)
 
 -- ---- what a stop, a resume and a prepare show
@@ -500,7 +500,7 @@ pub Shows-prepared : {C : Type 0} {g : Ghosts C} (a b : Substream C g) (s : Stre
     → b.state ≡ state.Prepared → b.kept ≡ None → a.runtime ≡ Some r → b.runtime ≡ Some u → u.shape ≡ r.shape → RunsFor u (prepared s) → Shows a s → Shows b (done (act.Prepare true) s)
 Shows-prepared {C} {g} a b s r u ed el facts et ek er eu shape runs h =
     let old : RunsFor r s = h.runs_for r er in
-    let start : s.setup.boundary % u.shape.buffer ≡ 0 = ap (λ l. l % u.shape.buffer) (old.boundary ∙ ap (λ (x : Shape). x.boundary) (sym shape)) ∙ sound-whole u.shape u.sound in
+    let start : s.setup.boundary % u.shape.buffer ≡ 0 = ap (λ l. l % u.shape.buffer) (old.setup.boundary ∙ ap (λ (x : Shape). x.boundary) (sym shape)) ∙ sound-whole u.shape u.sound in
     let at : (g.facts b.card).position ≡ s.setup.boundary % u.shape.buffer = ap (λ f. f.position) facts ∙ sym start in
     record {
       dir = ed ∙ h.dir;

@@ -117,41 +117,53 @@ total-bytes n w s bytes d e wide h =
 
 pub played-kept : (r : Runtime) (n : ℕ) (s : Stream) → Keeps r (with_count (s.moved + n) (known s)) → RunsFor r (played n s)
 played-kept r n s h = record {
-  config = h.config;
-  shape = h.shape;
-  frame_bytes = h.frame_bytes;
-  buffer = h.buffer;
-  boundary = h.boundary;
-  sw = h.sw;
-  mappings = h.mappings;
-  hw = h.hw;
-  appl = h.appl;
-  filled = h.filled;
-  ring = h.ring;
-  puts = h.puts;
-  taken = AreWide-append r.shape.frame_bytes s.card.taken (taken_by n s) h.taken
-      (AreWide-standing_at r.shape.frame_bytes s.puts s.setup.buffer s.at.card n (zero_frame s) h.puts (length-replicate s.setup.frame_bytes 0 ∙ h.frame_bytes));
-  to_give = h.to_give;
-  moved = h.moved;
+  setup = record {
+    config = h.setup.config;
+    shape = h.setup.shape;
+    frame_bytes = h.setup.frame_bytes;
+    buffer = h.setup.buffer;
+    boundary = h.setup.boundary;
+    sw = h.setup.sw;
+    mappings = h.setup.mappings;
+  };
+  pointers = record {
+    hw = h.pointers.hw;
+    appl = h.pointers.appl;
+    filled = h.pointers.filled;
+  };
+  frames = record {
+    ring = h.frames.ring;
+    puts = h.frames.puts;
+    taken = AreWide-append r.shape.frame_bytes s.card.taken (taken_by n s) h.frames.taken
+        (AreWide-standing_at r.shape.frame_bytes s.puts s.setup.buffer s.at.card n (zero_frame s) h.frames.puts (length-replicate s.setup.frame_bytes 0 ∙ h.setup.frame_bytes));
+    to_give = h.frames.to_give;
+    moved = h.frames.moved;
+  };
 }
 
 pub captured-kept : (r : Runtime) (n : ℕ) (s : Stream) → Keeps r (with_count (s.moved + n) (with_puts (put_at s.at.card (given_by n s) s.puts) (known s))) → RunsFor r (captured n s)
 captured-kept r n s h = record {
-  config = h.config;
-  shape = h.shape;
-  frame_bytes = h.frame_bytes;
-  buffer = h.buffer;
-  boundary = h.boundary;
-  sw = h.sw;
-  mappings = h.mappings;
-  hw = h.hw;
-  appl = h.appl;
-  filled = h.filled;
-  ring = h.ring;
-  puts = h.puts;
-  taken = h.taken;
-  to_give = AreWide-drop r.shape.frame_bytes n s.card.to_give h.to_give;
-  moved = h.moved;
+  setup = record {
+    config = h.setup.config;
+    shape = h.setup.shape;
+    frame_bytes = h.setup.frame_bytes;
+    buffer = h.setup.buffer;
+    boundary = h.setup.boundary;
+    sw = h.setup.sw;
+    mappings = h.setup.mappings;
+  };
+  pointers = record {
+    hw = h.pointers.hw;
+    appl = h.pointers.appl;
+    filled = h.pointers.filled;
+  };
+  frames = record {
+    ring = h.frames.ring;
+    puts = h.frames.puts;
+    taken = h.frames.taken;
+    to_give = AreWide-drop r.shape.frame_bytes n s.card.to_give h.frames.to_give;
+    moved = h.frames.moved;
+  };
 }
 
 -- ---- frames that a card gives, as bytes
@@ -213,8 +225,8 @@ taken-whole {C} {g} sub s h c e = by sub.runtime h.shows.unset h.shows.runs_for
     by None unset runs = let none : s.setup.config ≡ None = (unset refl).unset in absurd (cc)
     by (Some r) unset runs =
         let kept : RunsFor r s = runs r refl in
-        let size : length (g.facts sub.card).taken ≡ length s.card.taken * r.shape.frame_bytes = ap length h.shows.taken ∙ length-bytes_of r.shape.frame_bytes s.card.taken kept.taken in
-        ap (λ x. length (g.facts sub.card).taken % x) kept.frame_bytes ∙ ap (λ x. x % r.shape.frame_bytes) size ∙ mul-mod_left (length s.card.taken) r.shape.frame_bytes
+        let size : length (g.facts sub.card).taken ≡ length s.card.taken * r.shape.frame_bytes = ap length h.shows.taken ∙ length-bytes_of r.shape.frame_bytes s.card.taken kept.frames.taken in
+        ap (λ x. length (g.facts sub.card).taken % x) kept.setup.frame_bytes ∙ ap (λ x. x % r.shape.frame_bytes) size ∙ mul-mod_left (length s.card.taken) r.shape.frame_bytes
 
 -- ---- set-up
 
@@ -233,21 +245,27 @@ new-runs c s r h m =
     λ l e. ap (λ x. x % l) (sym e) ∙ mod_self l in
     let boundary : r.shape.boundary ≡ boundary_of (buffer_of c) s.long_max = ap (λ (x : Shape). x.boundary) h.sizes in
     record {
-      config = ap (λ (x : Config). Some x) (sym h.config);
-      shape = h.sizes ∙ ap (λ (x : Config). shape_of x s.long_max) (sym h.config);
-      frame_bytes = sym (ap (λ (x : Shape). x.frame_bytes) h.sizes);
-      buffer = sym (ap (λ (x : Shape). x.buffer) h.sizes);
-      boundary = sym boundary;
-      sw = sym h.sw;
-      mappings = m ∙ sym h.mappings;
-      hw = h.hw ∙ sym (start r.shape.boundary boundary);
-      appl = h.appl ∙ sym (start r.shape.boundary boundary);
-      filled = omega (arith, h.filled);
-      ring = h.empty;
-      puts = tt;
-      taken = tt;
-      to_give = tt;
-      moved = h.moved;
+      setup = record {
+        config = ap (λ (x : Config). Some x) (sym h.config);
+        shape = h.sizes ∙ ap (λ (x : Config). shape_of x s.long_max) (sym h.config);
+        frame_bytes = sym (ap (λ (x : Shape). x.frame_bytes) h.sizes);
+        buffer = sym (ap (λ (x : Shape). x.buffer) h.sizes);
+        boundary = sym boundary;
+        sw = sym h.sw;
+        mappings = m ∙ sym h.mappings;
+      };
+      pointers = record {
+        hw = h.hw ∙ sym (start r.shape.boundary boundary);
+        appl = h.appl ∙ sym (start r.shape.boundary boundary);
+        filled = omega (arith, h.filled);
+      };
+      frames = record {
+        ring = h.empty;
+        puts = tt;
+        taken = tt;
+        to_give = tt;
+        moved = h.moved;
+      };
     }
 
 -- its stream is sound, as the event that sets it up on a fresh one leaves it

@@ -107,16 +107,16 @@ planar-as : (a b c d : ℕ) (io : List ℕ) → a ≡ b → c ≡ d → planar_f
 planar-as a b c d io e k = ap (λ x. planar_frames (length io / x) c (x / c) io) e ∙ ap (λ x. planar_frames (length io / b) x (b / x) io) k
 
 pub channels-of : (r : Runtime) (s : Stream) → RunsFor r s → r.shape.channels ≡ channels_of s.setup.config
-channels-of r s h = ap (λ (x : Shape). x.channels) h.shape ∙ sym (ap channels_of h.config)
+channels-of r s h = ap (λ (x : Shape). x.channels) h.setup.shape ∙ sym (ap channels_of h.setup.config)
 
 -- a ring of the stream's sizes finds the frames of the stream
 pub planar-by : (r : Runtime) (s : Stream) (io : List ℕ) → RunsFor r s → frames_across_in r.ring io ≡ frames_by layout.Planar s io
 planar-by r s io h =
     planar-as r.ring.frame_bytes s.setup.frame_bytes r.ring.channels (channels_of s.setup.config) io
-    (r.sized.frame_bytes ∙ sym h.frame_bytes) (r.sized.channels ∙ channels-of r s h)
+    (r.sized.frame_bytes ∙ sym h.setup.frame_bytes) (r.sized.channels ∙ channels-of r s h)
 
 pub interleaved-by : (r : Runtime) (s : Stream) (io : List ℕ) → RunsFor r s → frames_of (length io / r.shape.frame_bytes) r.shape.frame_bytes io ≡ frames_by layout.Interleaved s io
-interleaved-by r s io h = ap (λ x. frames_of (length io / x) x io) (sym h.frame_bytes)
+interleaved-by r s io h = ap (λ x. frames_of (length io / x) x io) (sym h.setup.frame_bytes)
 
 -- they have as many bytes as a frame of the configuration
 pub AreWide-by : (w : Layout) (r : Runtime) (s : Stream) (io : List ℕ) → RunsFor r s → AreWide r.shape.frame_bytes (frames_by w s io)
@@ -129,7 +129,7 @@ AreWide-by layout.Planar r s io h =
     let c : ℕ = r.shape.channels in
     let whole : c * (b / c) ≡ b = omega (arith, div-add-mod' b c, r.sound.samples) in
     let room : length io / b * (c * (b / c)) ≤ length io = subst (λ (x : ℕ). length io / b * x ≤ length io) (sym whole) (div-mul-le_self (length io) b) in
-    subst (λ (x : List Frame). AreWide b x) (planar-as b s.setup.frame_bytes c (channels_of s.setup.config) io (sym h.frame_bytes) (channels-of r s h))
+    subst (λ (x : List Frame). AreWide b x) (planar-as b s.setup.frame_bytes c (channels_of s.setup.config) io (sym h.setup.frame_bytes) (channels-of r s h))
     (subst (λ (x : ℕ). AreWide x (planar_frames (length io / b) c (b / c) io)) whole
     (AreWide-planar (length io / b) c (b / c) io room))
 

@@ -74,7 +74,7 @@ pub StandsFor-set_sw : {C : Type 0} {g : Ghosts C} (a b : Substream C g) (w : Sw
     → refuses_sw s.setup.buffer s.setup.boundary w ≡ false → RunsFor u (set_sw w s) → StandsFor a s → StandsFor b (set_sw w s)
 StandsFor-set_sw {C} {g} a b w s r u one er eu shape f runs h =
     let facts : g.facts b.card ≡ g.facts a.card = ap g.facts one.card in
-    let config : s.setup.config ≡ Some r.config = (h.shows.runs_for r er).config in
+    let config : s.setup.config ≡ Some r.config = (h.shows.runs_for r er).setup.config in
     let at : (g.facts b.card).position ≡ s.at.card % u.shape.buffer =
     ap (λ f. f.position) facts ∙ h.shows.position r er ∙ ap (λ (x : Shape). s.at.card % x.buffer) (sym shape) in
     record {

@@ -94,12 +94,12 @@ whole-size w xs h = omega (arith, div-add-mod' (length xs) w, h)
 -- a ring of the stream's sizes reads what stands in the stream
 pub stood-by : (r : Runtime) (s : Stream) (count : ℕ) → RunsFor r s → stood_at r.ring s.puts s.at.appl count ≡ read_next count s
 stood-by r s count h =
-    ap (λ b. standing_at s.puts b s.at.appl count (replicate r.ring.frame_bytes 0)) (r.sized.buffer ∙ sym h.buffer)
-    ∙ ap (λ w. standing_at s.puts s.setup.buffer s.at.appl count (replicate w 0)) (r.sized.frame_bytes ∙ sym h.frame_bytes)
+    ap (λ b. standing_at s.puts b s.at.appl count (replicate r.ring.frame_bytes 0)) (r.sized.buffer ∙ sym h.setup.buffer)
+    ∙ ap (λ w. standing_at s.puts s.setup.buffer s.at.appl count (replicate w 0)) (r.sized.frame_bytes ∙ sym h.setup.frame_bytes)
 
 AreWide-stood : (r : Runtime) (s : Stream) (count : ℕ) → RunsFor r s → AreWide r.shape.frame_bytes (stood_at r.ring s.puts s.at.appl count)
 AreWide-stood r s count h =
-    AreWide-standing_at r.shape.frame_bytes s.puts r.ring.buffer s.at.appl count (replicate r.ring.frame_bytes 0) h.puts (length-replicate r.ring.frame_bytes 0 ∙ r.sized.frame_bytes)
+    AreWide-standing_at r.shape.frame_bytes s.puts r.ring.buffer s.at.appl count (replicate r.ring.frame_bytes 0) h.frames.puts (length-replicate r.ring.frame_bytes 0 ∙ r.sized.frame_bytes)
 
 -- ---- read into bytes that hold frame after frame
 
@@ -139,6 +139,6 @@ planar_read r s io first count h =
 pub planar_bytes : (r : Runtime) (s : Stream) (fs : List Frame) → RunsFor r s → bytes_across r.ring.channels (sample_bytes r.ring) fs ≡ bytes_by layout.Planar s fs
 planar_bytes r s fs h =
     let channels : r.ring.channels ≡ channels_of s.setup.config = r.sized.channels ∙ channels-of r s h in
-    let width : r.ring.frame_bytes ≡ s.setup.frame_bytes = r.sized.frame_bytes ∙ sym h.frame_bytes in
+    let width : r.ring.frame_bytes ≡ s.setup.frame_bytes = r.sized.frame_bytes ∙ sym h.setup.frame_bytes in
     ap (λ c. bytes_across c (r.ring.frame_bytes / c) fs) channels
     ∙ ap (λ b. bytes_across (channels_of s.setup.config) (b / channels_of s.setup.config) fs) width

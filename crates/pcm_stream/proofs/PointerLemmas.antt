@@ -86,26 +86,32 @@ Sound-given c fs s e h = sound_configured c (with_to_give fs s) e (IsConfigured-
 -- the runtime does not hang on them but for their width
 pub RunsFor-given : (r : Runtime) (bytes : List ℕ) (s : Stream) → RunsFor r s → RunsFor r (with_to_give (frames_in s bytes) s)
 RunsFor-given r bytes s h = record {
-  config = h.config;
-  shape = h.shape;
-  frame_bytes = h.frame_bytes;
-  buffer = h.buffer;
-  boundary = h.boundary;
-  sw = h.sw;
-  mappings = h.mappings;
-  hw = h.hw;
-  appl = h.appl;
-  filled = h.filled;
-  ring = h.ring;
-  puts = h.puts;
-  taken = h.taken;
-  to_give = AreWide-by layout.Interleaved r s bytes h;
-  moved = h.moved;
+  setup = record {
+    config = h.setup.config;
+    shape = h.setup.shape;
+    frame_bytes = h.setup.frame_bytes;
+    buffer = h.setup.buffer;
+    boundary = h.setup.boundary;
+    sw = h.setup.sw;
+    mappings = h.setup.mappings;
+  };
+  pointers = record {
+    hw = h.pointers.hw;
+    appl = h.pointers.appl;
+    filled = h.pointers.filled;
+  };
+  frames = record {
+    ring = h.frames.ring;
+    puts = h.frames.puts;
+    taken = h.frames.taken;
+    to_give = AreWide-by layout.Interleaved r s bytes h;
+    moved = h.frames.moved;
+  };
 }
 
 -- their bytes
 pub bytes_of-given : (r : Runtime) (bytes : List ℕ) (s : Stream) → RunsFor r s → length bytes % r.shape.frame_bytes ≡ 0 → bytes ≡ bytes_of (frames_in s bytes)
-bytes_of-given r bytes s h whole = sym (bytes_of-whole s.setup.frame_bytes bytes (ap (λ w. length bytes % w) h.frame_bytes ∙ whole))
+bytes_of-given r bytes s h whole = sym (bytes_of-whole s.setup.frame_bytes bytes (ap (λ w. length bytes % w) h.setup.frame_bytes ∙ whole))
 
 -- a card that was given these bytes, and a substream that is the same otherwise
 pub StandsFor-given : {C : Type 0} {g : Ghosts C} (a b : Substream C g) (bytes : List ℕ) (s : Stream) → IsSome (shape_in a) → ForSome (shape_in a) (λ x. AreFrames x bytes)
@@ -133,5 +139,5 @@ StandsFor-given {C} {g} a b bytes s some whole dir long_max state kept runtime f
           };
           runs = ap (λ f. f.runs) facts ∙ h.runs;
           plan = λ p q. h.plan p (sym (ap (λ f. f.plan) facts) ∙ q);
-          sound = Sound-given r.config (frames_in s bytes) s runs.config h.sound;
+          sound = Sound-given r.config (frames_in s bytes) s runs.setup.config h.sound;
         }

@@ -5,6 +5,7 @@ pub mod Triggers
 pub mod Moving
 pub mod SetUp
 pub mod StandsFor
+pub mod Kept
 pub mod Buffer
 pub mod Mappings
 pub mod KeepingUp

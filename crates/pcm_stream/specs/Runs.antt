@@ -32,8 +32,8 @@ with_puts puts s = record s { puts = puts }
 abbrev pub with_count : ℕ → Known → Known
 with_count n s = record s { moved = n }
 
--- The configuration, its sizes, the software parameters, the mappings, the shown pointers, the last fill's end ahead of the hardware position, the buffer and the count of moved frames are these.
-pub record Keeps (r : Runtime) (s : Known) : Type 0 where
+-- The configuration, its sizes, the software parameters and the mappings are these.
+pub record HasSetup (r : Runtime) (s : Known) : Type 0 where
   pub config : s.setup.config ≡ Some r.config
   pub shape : r.shape ≡ shape_of r.config s.long_max
   pub frame_bytes : s.setup.frame_bytes ≡ r.shape.frame_bytes
@@ -41,14 +41,26 @@ pub record Keeps (r : Runtime) (s : Known) : Type 0 where
   pub boundary : s.setup.boundary ≡ r.shape.boundary
   pub sw : s.setup.sw ≡ r.sw
   pub mappings : s.mappings ≡ r.mappings
+
+-- The pointers show the positions, and the last fill's end lies as far ahead of the hardware position.
+pub record HasPointers (r : Runtime) (s : Known) : Type 0 where
   pub hw : r.ptr.hw ≡ s.at.hw % r.shape.boundary
   pub appl : r.appl ≡ s.at.appl % r.shape.boundary
   pub filled : s.at.filled - s.at.hw ≡ r.filled
+
+-- The buffer holds the frames that were put, all frames are as wide as the configuration has them, and as many are counted as moved.
+pub record HoldsFrames (r : Runtime) (s : Known) : Type 0 where
   pub ring : StandsForPuts r.ring s.puts
   pub puts : PutsAreWide r.shape.frame_bytes s.puts
   pub taken : AreWide r.shape.frame_bytes s.taken
   pub to_give : AreWide r.shape.frame_bytes s.to_give
   pub moved : r.moved ≡ min s.moved (2 ^ 64 - 1)
+
+-- The set-up, the pointers and the frames are these.
+pub record Keeps (r : Runtime) (s : Known) : Type 0 where
+  pub setup : HasSetup r s
+  pub pointers : HasPointers r s
+  pub frames : HoldsFrames r s
 
 -- the runtime is that of the stream
 abbrev pub RunsFor : Runtime → Stream → Type 0

@@ -64,10 +64,11 @@ impl<C: Card> Substream<C> {
     ghost use Rattle.pcm_base.specs.declared.state.Errno.{Errno as ErrnoOf};
     ghost use Rattle.pcm_base.specs.model.Allowed.{accepts, shape_of};
     ghost use Rattle.pcm_base.specs.model.Words.{is_closed};
+    ghost use Rattle.pcm_stream.specs.Kept.{KeepsCard, KeepsFaults};
     ghost use Rattle.pcm_stream.specs.Mappings.{mappings_in};
     ghost use Rattle.pcm_stream.specs.Runs.{IsNewRuntime};
     ghost use Rattle.pcm_stream.specs.SetUp.{change_refusal, hw_refusal, configured_by};
-    ghost use Rattle.pcm_stream.specs.StandsFor.{StandsFor, IsShapeOf, card_of, faults_of, shape_in, tells_plan};
+    ghost use Rattle.pcm_stream.specs.StandsFor.{StandsFor, IsShapeOf, card_of, faults_of, shape_in};
 
     /// A substream that no client has opened, over a card that stands, has no frames taken and none to give, and has no
     /// fault planned. `long_max` is the LONG_MAX of the session, at most 2^36 - 1. Its buffer will be taken from `alloc`.
@@ -188,10 +189,7 @@ impl<C: Card> Substream<C> {
     pub fn open_sub(&mut self) -> Result<(), Errno>
         ensures ok { (s : Stream) → StandsFor self.old s → OnOk result ((is_closed s.state ≡ true) × StandsFor self.new (record s { state = State.Opened })) }
         ensures busy { (s : Stream) → StandsFor self.old s → IfErr result (λ e. (e ≡ Errno.Ebusy) × (is_closed s.state ≡ false) × StandsFor self.new s) }
-        ensures card { card_of self.new ≡ card_of self.old }
-        ensures shape { shape_in self.new ≡ shape_in self.old }
-        ensures faults { faults_of self.new ≡ faults_of self.old }
-        ensures tells { tells_plan self.new ≡ tells_plan self.old }
+        ensures keeps { KeepsCard self.old self.new }
     {
         match self.state {
             State::Closed => {
@@ -215,8 +213,7 @@ impl<C: Card> Substream<C> {
         ensures granted { (s : Stream) → StandsFor self.old s → hw_refusal busy s ≡ None → accepts s.model s.long_max config.now ≡ true → IfErr result (λ e. e ≡ HwRefusal.Memory) }
         ensures memory { (s : Stream) → StandsFor self.old s → result ≡ Err HwRefusal.Memory
             → (hw_refusal busy s ≡ None) × (accepts s.model s.long_max config.now ≡ true) × StandsFor self.new s }
-        ensures faults { faults_of self.new ≡ faults_of self.old }
-        ensures tells { tells_plan self.new ≡ tells_plan self.old }
+        ensures keeps { KeepsFaults self.old self.new }
     {
         if let Err(e) = self.change_allowed(CallKind::HwParams, busy) {
             return Err(HwRefusal::Errno(e));
@@ -267,8 +264,7 @@ impl<C: Card> Substream<C> {
     // The configuration goes, with its buffer, and the card's lists are emptied.
     fn free(&mut self)
         ensures model { (s : Stream) → StandsFor self.old s → s.mappings ≡ 0 → StandsFor self.new (freed s) }
-        ensures faults { faults_of self.new ≡ faults_of self.old }
-        ensures tells { tells_plan self.new ≡ tells_plan self.old }
+        ensures keeps { KeepsFaults self.old self.new }
     {
         if let Some(runtime) = &self.runtime {
             self.card.set_up(&runtime.shape);
@@ -284,8 +280,7 @@ impl<C: Card> Substream<C> {
         requires shape { runtime.shape ≡ shape.now }
         ensures model { (s : Stream) (c : Configuration) → StandsFor self.old s → accepts s.model s.long_max c ≡ true → shape.now ≡ shape_of c s.long_max → s.mappings ≡ 0
             → IsNewRuntime c shape.now runtime → StandsFor self.new (configured_by c s) }
-        ensures faults { faults_of self.new ≡ faults_of self.old }
-        ensures tells { tells_plan self.new ≡ tells_plan self.old }
+        ensures keeps { KeepsFaults self.old self.new }
     {
         self.card.set_up(shape);
         self.runtime = Some(runtime);

@@ -70,6 +70,7 @@ fn vote_able(able: bool, kind: CallKind, state: State, dir: Dir) -> Result<(), E
 }
 
 impl<C: Card> Substream<C> {
+    ghost use Rattle.pcm_stream.specs.Kept.{KeepsCard, KeepsSizes};
     ghost use Rattle.pcm_stream.specs.StandsFor.{StandsFor, Shows, HasDone, card_of, faults_of, shape_in, tells_plan};
 
     /// What this member says to an act: its errno where it refuses, the causes in order (`snd_pcm_pre_start` and its kin;
@@ -248,9 +249,7 @@ impl<C: Card> Substream<C> {
     /// kernel's asks the card by a trigger, which may fail, and this never does).
     pub fn undo_act(&mut self, act: Act)
         ensures undone { (s : Stream) → HasDone act self.old s → StandsFor self.new (asked s act) }
-        ensures faults { faults_of self.new ≡ faults_of self.old }
-        ensures shape { shape_in self.new ≡ shape_in self.old }
-        ensures tells { tells_plan self.new ≡ tells_plan self.old }
+        ensures keeps { KeepsSizes self.old self.new }
     {
         if let Some(trigger) = self.trigger_for(act) {
             if self.card.runs() != self.ran() {
@@ -264,9 +263,7 @@ impl<C: Card> Substream<C> {
     pub fn post_act(&mut self, act: Act)
         requires stop { is_stop act ≡ true }
         ensures done { (s : Stream) → HasDone act self.old s → StandsFor self.new (after act Yes Done s) }
-        ensures faults { faults_of self.new ≡ faults_of self.old }
-        ensures shape { shape_in self.new ≡ shape_in self.old }
-        ensures tells { tells_plan self.new ≡ tells_plan self.old }
+        ensures keeps { KeepsSizes self.old self.new }
     {
         match act {
             Act::Start => {
@@ -290,9 +287,7 @@ impl<C: Card> Substream<C> {
     // A member that no client has configured, or whose card is gone, stays.
     fn post_stop(&mut self, state: State)
         ensures shows { (s : Stream) → Shows self.old s → Shows self.new (stopped state s) }
-        ensures card { card_of self.new ≡ card_of self.old }
-        ensures faults { faults_of self.new ≡ faults_of self.old }
-        ensures shape { shape_in self.new ≡ shape_in self.old }
+        ensures keeps { KeepsCard self.old self.new }
     {
         match self.state {
             State::Opened | State::Closed | State::Disconnected => {}
@@ -307,8 +302,7 @@ impl<C: Card> Substream<C> {
         ensures shows { (s : Stream) → Shows self.old s → Shows self.new (done (Prepare true) s) }
         ensures runs { (card_of self.new).runs ≡ (card_of self.old).runs }
         ensures plan { (card_of self.new).plan ≡ (card_of self.old).plan }
-        ensures faults { faults_of self.new ≡ faults_of self.old }
-        ensures shape { shape_in self.new ≡ shape_in self.old }
+        ensures keeps { KeepsSizes self.old self.new }
     {
         self.state = State::Prepared;
         self.kept = None;
@@ -320,9 +314,7 @@ impl<C: Card> Substream<C> {
 
     fn post_resume(&mut self)
         ensures shows { (s : Stream) → Shows self.old s → Shows self.new (resumed s) }
-        ensures card { card_of self.new ≡ card_of self.old }
-        ensures faults { faults_of self.new ≡ faults_of self.old }
-        ensures shape { shape_in self.new ≡ shape_in self.old }
+        ensures keeps { KeepsCard self.old self.new }
     {
         if let Some(state) = self.kept {
             self.state = state;
@@ -333,9 +325,7 @@ impl<C: Card> Substream<C> {
     // What was written is played; what was captured can be read.
     fn post_drain(&mut self)
         ensures shows { (s : Stream) → Shows self.old s → Sound s → Shows self.new (drained s) }
-        ensures card { card_of self.new ≡ card_of self.old }
-        ensures faults { faults_of self.new ≡ faults_of self.old }
-        ensures shape { shape_in self.new ≡ shape_in self.old }
+        ensures keeps { KeepsCard self.old self.new }
     {
         match self.dir {
             Dir::Playback => self.post_drain_playback(),
@@ -345,9 +335,7 @@ impl<C: Card> Substream<C> {
 
     fn post_drain_playback(&mut self)
         ensures shows { (s : Stream) → s.dir ≡ Playback → Shows self.old s → Sound s → Shows self.new (drained s) }
-        ensures card { card_of self.new ≡ card_of self.old }
-        ensures faults { faults_of self.new ≡ faults_of self.old }
-        ensures shape { shape_in self.new ≡ shape_in self.old }
+        ensures keeps { KeepsCard self.old self.new }
     {
         match self.state {
             State::Prepared => {
@@ -366,9 +354,7 @@ impl<C: Card> Substream<C> {
 
     fn post_drain_capture(&mut self)
         ensures shows { (s : Stream) → s.dir ≡ Capture → Shows self.old s → Sound s → Shows self.new (drained s) }
-        ensures card { card_of self.new ≡ card_of self.old }
-        ensures faults { faults_of self.new ≡ faults_of self.old }
-        ensures shape { shape_in self.new ≡ shape_in self.old }
+        ensures keeps { KeepsCard self.old self.new }
     {
         if let State::Running = self.state {
             if self.has_frames() {
@@ -382,9 +368,7 @@ impl<C: Card> Substream<C> {
     // Silence ahead of what a playback client has written.
     fn put_silence(&mut self)
         ensures shows { (s : Stream) → Shows self.old s → ForSome s.setup.config (λ _. IsPlaced s) → Shows self.new (fill s) }
-        ensures card { card_of self.new ≡ card_of self.old }
-        ensures faults { faults_of self.new ≡ faults_of self.old }
-        ensures shape { shape_in self.new ≡ shape_in self.old }
+        ensures keeps { KeepsCard self.old self.new }
     {
         match self.dir {
             Dir::Playback => {

@@ -92,7 +92,8 @@ impl Runtime {
 }
 
 impl<C: Card> Substream<C> {
-    ghost use Rattle.pcm_stream.specs.StandsFor.{StandsFor, faults_of, shape_in, tells_plan};
+    ghost use Rattle.pcm_stream.specs.Kept.{KeepsSizes};
+    ghost use Rattle.pcm_stream.specs.StandsFor.{StandsFor, shape_in};
 
     /// Reads the `count` frames at the application position into the frames of `io` from `first` on, and moves the
     /// position on by them. On capture; at most as many as are available and as the buffer holds. `io` holds whole frames,
@@ -106,9 +107,7 @@ impl<C: Card> Substream<C> {
         ensures moved { (s : Stream) → StandsFor self.old s → count ≤ avail s → StandsFor self.new (on_by count s) }
         ensures frames { (s : Stream) → StandsFor self.old s → frames_by layout s io.new ≡ frames_read layout s first count io.old }
         ensures bytes { (s : Stream) → StandsFor self.old s → io.new ≡ bytes_by layout s (frames_read layout s first count io.old) }
-        ensures shape { shape_in self.new ≡ shape_in self.old }
-        ensures faults { faults_of self.new ≡ faults_of self.old }
-        ensures tells { tells_plan self.new ≡ tells_plan self.old }
+        ensures keeps { KeepsSizes self.old self.new }
     {
         if let Some(runtime) = &mut self.runtime {
             runtime.get(layout, io, first, count);
@@ -122,9 +121,7 @@ impl<C: Card> Substream<C> {
         requires whole { ForSome (shape_in self.old) (λ s. AreFrames s frames.now) }
         requires within { ForSome (shape_in self.old) (λ s. slot + count_of s frames.now ≤ s.buffer) }
         ensures stored { (s : Stream) → StandsFor self.old s → StandsFor self.new (stored_at slot (frames_in s frames.now) s) }
-        ensures shape { shape_in self.new ≡ shape_in self.old }
-        ensures faults { faults_of self.new ≡ faults_of self.old }
-        ensures tells { tells_plan self.new ≡ tells_plan self.old }
+        ensures keeps { KeepsSizes self.old self.new }
     {
         if let Some(runtime) = &mut self.runtime {
             runtime.store(slot, frames);

@@ -27,7 +27,8 @@ fn found_in(state: State, buffer: u64, stop_threshold: u64, avail: u64) -> Updat
 }
 
 impl<C: Card> Substream<C> {
-    ghost use Rattle.pcm_stream.specs.StandsFor.{StandsFor, faults_of, shape_in, tells_plan, dma_reply};
+    ghost use Rattle.pcm_stream.specs.Kept.{KeepsSizes};
+    ghost use Rattle.pcm_stream.specs.StandsFor.{StandsFor, shape_in, dma_reply};
     ghost use Rattle.pcm_stream.specs.Moving.{CanMove};
 
     /// Reports where the card stands, puts silence ahead of a playback client, and looks whether that ends a drain, which
@@ -36,9 +37,7 @@ impl<C: Card> Substream<C> {
     pub fn update(&mut self) -> Updated
         ensures found { (s : Stream) → StandsFor self.old s → result ≡ (update_of s).found }
         ensures model { (s : Stream) → StandsFor self.old s → StandsFor self.new (update_of s).stream }
-        ensures faults { faults_of self.new ≡ faults_of self.old }
-        ensures shape { shape_in self.new ≡ shape_in self.old }
-        ensures tells { tells_plan self.new ≡ tells_plan self.old }
+        ensures keeps { KeepsSizes self.old self.new }
     {
         if !self.card.runs() {
             return Updated::Nothing;
@@ -56,9 +55,7 @@ impl<C: Card> Substream<C> {
     // The hardware pointer moves to where the running card stands.
     fn report(&mut self)
         ensures model { (s : Stream) → StandsFor self.old s → s.card.runs ≡ true → StandsFor self.new (moved_up s) }
-        ensures faults { faults_of self.new ≡ faults_of self.old }
-        ensures shape { shape_in self.new ≡ shape_in self.old }
-        ensures tells { tells_plan self.new ≡ tells_plan self.old }
+        ensures keeps { KeepsSizes self.old self.new }
     {
         let Some(runtime) = &mut self.runtime else {
             return;
@@ -88,9 +85,7 @@ impl<C: Card> Substream<C> {
     // All that was written is played.
     fn end_drain(&mut self)
         ensures model { (s : Stream) → StandsFor self.old s → found_of s ≡ DrainDone → StandsFor self.new (settled DrainDone s) }
-        ensures faults { faults_of self.new ≡ faults_of self.old }
-        ensures shape { shape_in self.new ≡ shape_in self.old }
-        ensures tells { tells_plan self.new ≡ tells_plan self.old }
+        ensures keeps { KeepsSizes self.old self.new }
     {
         self.state = State::Setup;
         let _ = self.card.trigger(Trigger::Stop);
@@ -105,9 +100,7 @@ impl<C: Card> Substream<C> {
         requires within { ForSome (shape_in self.old) (λ s. first + count ≤ count_of s io.now) }
         requires fits { ForSome (shape_in self.old) (λ s. count ≤ s.buffer) }
         ensures put { (s : Stream) → StandsFor self.old s → count ≤ avail s → StandsFor self.new (put_next (take count (drop first (frames_by layout s io.now))) s) }
-        ensures shape { shape_in self.new ≡ shape_in self.old }
-        ensures faults { faults_of self.new ≡ faults_of self.old }
-        ensures tells { tells_plan self.new ≡ tells_plan self.old }
+        ensures keeps { KeepsSizes self.old self.new }
     {
         if let Some(runtime) = &mut self.runtime {
             runtime.put(layout, io, first, count);
@@ -122,9 +115,7 @@ impl<C: Card> Substream<C> {
         ensures reply { (s : Stream) → StandsFor self.old s → ForSome (dma_reply result) (λ reply. reply ≡ (move n s).reply) }
         ensures moved { (s : Stream) → StandsFor self.old s → result ≢ Err DmaRefusal.Memory → StandsFor self.new (move n s).stream }
         ensures memory { (s : Stream) → StandsFor self.old s → result ≡ Err DmaRefusal.Memory → StandsFor self.new s }
-        ensures faults { faults_of self.new ≡ faults_of self.old }
-        ensures shape { shape_in self.new ≡ shape_in self.old }
-        ensures tells { tells_plan self.new ≡ tells_plan self.old }
+        ensures keeps { KeepsSizes self.old self.new }
     {
         if !self.card.runs() {
             return Err(DmaRefusal::Idle);
@@ -151,9 +142,7 @@ impl<C: Card> Substream<C> {
         ensures reply { (s : Stream) → StandsFor self.old s → CanMove Playback n s → ForSome (dma_reply result) (λ reply. reply ≡ (move n s).reply) }
         ensures moved { (s : Stream) → StandsFor self.old s → CanMove Playback n s → result ≢ Err DmaRefusal.Memory → StandsFor self.new (move n s).stream }
         ensures memory { (s : Stream) → StandsFor self.old s → result ≡ Err DmaRefusal.Memory → StandsFor self.new s }
-        ensures faults { faults_of self.new ≡ faults_of self.old }
-        ensures shape { shape_in self.new ≡ shape_in self.old }
-        ensures tells { tells_plan self.new ≡ tells_plan self.old }
+        ensures keeps { KeepsSizes self.old self.new }
     {
         let Some(runtime) = &mut self.runtime else {
             return Err(DmaRefusal::Idle);
@@ -176,9 +165,7 @@ impl<C: Card> Substream<C> {
     fn capture(&mut self, n: u64)
         requires { ForSome self.old.runtime (λ r. n < r.shape.buffer) }
         ensures moved { (s : Stream) → StandsFor self.old s → CanMove Capture n s → StandsFor self.new (move n s).stream }
-        ensures faults { faults_of self.new ≡ faults_of self.old }
-        ensures shape { shape_in self.new ≡ shape_in self.old }
-        ensures tells { tells_plan self.new ≡ tells_plan self.old }
+        ensures keeps { KeepsSizes self.old self.new }
     {
         let Some(runtime) = &mut self.runtime else {
             return;

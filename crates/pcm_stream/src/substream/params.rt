@@ -42,16 +42,15 @@ impl Runtime {
 
 impl<C: Card> Substream<C> {
     ghost use Rattle.pcm_stream.specs.SetUp.{free_refusal, sw_refusal};
-    ghost use Rattle.pcm_stream.specs.StandsFor.{StandsFor, card_of, faults_of, shape_in, tells_plan};
+    ghost use Rattle.pcm_stream.specs.Kept.{KeepsCard, KeepsFaults, KeepsSizes};
+    ghost use Rattle.pcm_stream.specs.StandsFor.{StandsFor, shape_in};
 
     /// Sets the software parameters (`snd_pcm_sw_params`; where the substream runs, the kernel's also puts silence and looks
     /// at the state). Refused by the error table, then EINVAL where `check_sw` refuses them, with nothing changed.
     pub fn sw_params(&mut self, sw: &SwParams) -> Result<(), Errno>
         ensures ok { (s : Stream) → StandsFor self.old s → OnOk result ((sw_refusal sw.now s ≡ None) × StandsFor self.new (set_sw sw.now s)) }
         ensures refused { (s : Stream) → StandsFor self.old s → IfErr result (λ e. (sw_refusal sw.now s ≡ Some e) × StandsFor self.new s) }
-        ensures shape { shape_in self.new ≡ shape_in self.old }
-        ensures faults { faults_of self.new ≡ faults_of self.old }
-        ensures tells { tells_plan self.new ≡ tells_plan self.old }
+        ensures keeps { KeepsSizes self.old self.new }
     {
         permit(CallKind::SwParams, self.state, self.dir)?;
         match &mut self.runtime {
@@ -67,8 +66,7 @@ impl<C: Card> Substream<C> {
         ensures ok { (s : Stream) → StandsFor self.old s → OnOk result ((free_refusal busy s ≡ None) × StandsFor self.new (freed s)) }
         ensures refused { (s : Stream) → StandsFor self.old s → IfErr result (λ e. (free_refusal busy s ≡ Some e) × StandsFor self.new s) }
         ensures shape { OnErr result (shape_in self.new ≡ shape_in self.old) }
-        ensures faults { faults_of self.new ≡ faults_of self.old }
-        ensures tells { tells_plan self.new ≡ tells_plan self.old }
+        ensures keeps { KeepsFaults self.old self.new }
     {
         self.change_allowed(CallKind::HwFree, busy)?;
         self.free();
@@ -81,9 +79,7 @@ impl<C: Card> Substream<C> {
         ensures ok { (s : Stream) → StandsFor self.old s → OnOk result (StandsFor self.new (plan_set k s)) }
         ensures range { IsOk result ↔ ((1 ≤ k) × (k ≤ 64)) }
         ensures einval { (s : Stream) → StandsFor self.old s → IfErr result (λ e. (e ≡ Errno.Einval) × StandsFor self.new s) }
-        ensures shape { shape_in self.new ≡ shape_in self.old }
-        ensures faults { faults_of self.new ≡ faults_of self.old }
-        ensures tells { tells_plan self.new ≡ tells_plan self.old }
+        ensures keeps { KeepsSizes self.old self.new }
     {
         self.card.fail_at(k)
     }
@@ -95,9 +91,7 @@ impl<C: Card> Substream<C> {
         requires whole { ForSome (shape_in self.old) (λ s. AreFrames s frames.now) }
         ensures given { (s : Stream) → StandsFor self.old s → OnOk result (StandsFor self.new (with_to_give (frames_in s frames.now) s)) }
         ensures memory { (s : Stream) → StandsFor self.old s → OnErr result (StandsFor self.new s) }
-        ensures shape { shape_in self.new ≡ shape_in self.old }
-        ensures faults { faults_of self.new ≡ faults_of self.old }
-        ensures tells { tells_plan self.new ≡ tells_plan self.old }
+        ensures keeps { KeepsSizes self.old self.new }
     {
         self.card.give(frames)
     }
@@ -107,9 +101,7 @@ impl<C: Card> Substream<C> {
         requires shape { IsSome (shape_in self.old) }
         requires few { n ≤ 65535 }
         ensures set { (s : Stream) → StandsFor self.old s → StandsFor self.new (set_mappings n s) }
-        ensures shape { shape_in self.new ≡ shape_in self.old }
-        ensures faults { faults_of self.new ≡ faults_of self.old }
-        ensures tells { tells_plan self.new ≡ tells_plan self.old }
+        ensures keeps { KeepsSizes self.old self.new }
     {
         if let Some(runtime) = &mut self.runtime {
             runtime.set_mappings(n);
@@ -120,10 +112,7 @@ impl<C: Card> Substream<C> {
     /// stay (`snd_pcm_dev_disconnect`; the rules are this project's own).
     pub fn unplug(&mut self)
         ensures unplugged { (s : Stream) → StandsFor self.old s → s.card.runs ≡ false → StandsFor self.new (unplugged s) }
-        ensures shape { shape_in self.new ≡ shape_in self.old }
-        ensures card { card_of self.new ≡ card_of self.old }
-        ensures faults { faults_of self.new ≡ faults_of self.old }
-        ensures tells { tells_plan self.new ≡ tells_plan self.old }
+        ensures keeps { KeepsCard self.old self.new }
     {
         self.state = State::Disconnected;
         self.kept = None;
@@ -134,8 +123,7 @@ impl<C: Card> Substream<C> {
     pub fn close_sub(&mut self)
         requires unmapped { (s : Stream) → StandsFor self.old s → s.mappings ≡ 0 }
         ensures closed { (s : Stream) → StandsFor self.old s → StandsFor self.new (closed s) }
-        ensures faults { faults_of self.new ≡ faults_of self.old }
-        ensures tells { tells_plan self.new ≡ tells_plan self.old }
+        ensures keeps { KeepsFaults self.old self.new }
     {
         self.free();
         self.state = State::Closed;

@@ -46,7 +46,8 @@ impl Runtime {
 }
 
 impl<C: Card> Substream<C> {
-    ghost use Rattle.pcm_stream.specs.StandsFor.{StandsFor, faults_of, shape_in, tells_plan};
+    ghost use Rattle.pcm_stream.specs.Kept.{KeepsSizes};
+    ghost use Rattle.pcm_stream.specs.StandsFor.{StandsFor, shape_in};
 
     /// Takes the application position back by `n` frames, or by as many as are queued on playback or have been read on
     /// capture, where these are fewer; answers how many (`snd_pcm_rewind`).
@@ -54,9 +55,7 @@ impl<C: Card> Substream<C> {
         requires shape { IsSome (shape_in self.old) }
         ensures count { (s : Stream) → StandsFor self.old s → result ≡ min n (hw_avail s) }
         ensures moved { (s : Stream) → StandsFor self.old s → StandsFor self.new (back_by (min n (hw_avail s)) s) }
-        ensures shape { shape_in self.new ≡ shape_in self.old }
-        ensures faults { faults_of self.new ≡ faults_of self.old }
-        ensures tells { tells_plan self.new ≡ tells_plan self.old }
+        ensures keeps { KeepsSizes self.old self.new }
     {
         match &mut self.runtime {
             None => 0,
@@ -70,9 +69,7 @@ impl<C: Card> Substream<C> {
         requires shape { IsSome (shape_in self.old) }
         ensures count { (s : Stream) → StandsFor self.old s → result ≡ min n (avail s) }
         ensures moved { (s : Stream) → StandsFor self.old s → StandsFor self.new (on_by (min n (avail s)) s) }
-        ensures shape { shape_in self.new ≡ shape_in self.old }
-        ensures faults { faults_of self.new ≡ faults_of self.old }
-        ensures tells { tells_plan self.new ≡ tells_plan self.old }
+        ensures keeps { KeepsSizes self.old self.new }
     {
         match &mut self.runtime {
             None => 0,
@@ -87,9 +84,7 @@ impl<C: Card> Substream<C> {
         requires shape { IsSome (shape_in self.old) }
         ensures ok { (s : Stream) → StandsFor self.old s → OnOk result ((p < s.setup.boundary) × StandsFor self.new (sync_to p s)) }
         ensures einval { (s : Stream) → StandsFor self.old s → IfErr result (λ e. (e ≡ Errno.Einval) × (s.setup.boundary ≤ p) × StandsFor self.new s) }
-        ensures shape { shape_in self.new ≡ shape_in self.old }
-        ensures faults { faults_of self.new ≡ faults_of self.old }
-        ensures tells { tells_plan self.new ≡ tells_plan self.old }
+        ensures keeps { KeepsSizes self.old self.new }
     {
         let Some(runtime) = &mut self.runtime else {
             return Err(Errno::Einval);

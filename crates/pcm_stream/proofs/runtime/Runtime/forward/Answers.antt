@@ -13,19 +13,25 @@ returns-clause-moved c s dir h placed =
     let free : c.avail.result ≡ avail s = c.avail.ensures.model s dir h placed in
     let count : c.min-count.result ≡ min c.args.n (avail s) = omega (arith, free, c.min-count.ensures) in
     record {
-      config = h.config;
-      shape = h.shape;
-      frame_bytes = h.frame_bytes;
-      buffer = h.buffer;
-      boundary = h.boundary;
-      sw = h.sw;
-      mappings = h.mappings;
-      hw = h.hw;
-      appl = c.add-self.ensures.shown s.at.appl h.appl ∙ ap (λ n. (s.at.appl + n) % r.shape.boundary) count;
-      filled = h.filled;
-      ring = h.ring;
-      puts = h.puts;
-      taken = h.taken;
-      to_give = h.to_give;
-      moved = h.moved;
+      setup = record {
+        config = h.setup.config;
+        shape = h.setup.shape;
+        frame_bytes = h.setup.frame_bytes;
+        buffer = h.setup.buffer;
+        boundary = h.setup.boundary;
+        sw = h.setup.sw;
+        mappings = h.setup.mappings;
+      };
+      pointers = record {
+        hw = h.pointers.hw;
+        appl = c.add-self.ensures.shown s.at.appl h.pointers.appl ∙ ap (λ n. (s.at.appl + n) % r.shape.boundary) count;
+        filled = h.pointers.filled;
+      };
+      frames = record {
+        ring = h.frames.ring;
+        puts = h.frames.puts;
+        taken = h.frames.taken;
+        to_give = h.frames.to_give;
+        moved = h.frames.moved;
+      };
     }

@@ -26,27 +26,33 @@ returns-in-Interleaved-clause-put c s h =
     let r = c.args.self.now in
     let io : List ℕ = c.args.io.now in
     let fs : List Frame = take c.args.count (drop c.args.first (frames_by c.args.layout s io)) in
-    let slot : s.at.appl % r.shape.buffer ≡ r.appl % r.shape.buffer = sym (shown-slot r.shape r.sound s.at.appl) ∙ ap (λ x. x % r.shape.buffer) (sym h.appl) in
+    let slot : s.at.appl % r.shape.buffer ≡ r.appl % r.shape.buffer = sym (shown-slot r.shape r.sound s.at.appl) ∙ ap (λ x. x % r.shape.buffer) (sym h.pointers.appl) in
     let frames : frames_in r.ring c.frames_from-frames.result.now ≡ take c.args.count (drop c.args.first (frames_by c.args.layout s io)) =
     run-in r s c.frames_from-frames.result.now io c.args.first c.args.count h c.frames_from-frames.ensures.size c.frames_from-frames.ensures.frames
     ∙ ap (λ (w : Layout). take c.args.count (drop c.args.first (frames_by w s io))) (sym c.in-Interleaved.is) in
     record {
-      config = h.config;
-      shape = h.shape;
-      frame_bytes = h.frame_bytes;
-      buffer = h.buffer;
-      boundary = h.boundary;
-      sw = h.sw;
-      mappings = h.mappings;
-      hw = h.hw;
-      appl = h.appl;
-      filled = h.filled;
-      ring = subst (λ (x : List Frame). StandsForPuts c.put.new.self (put_at s.at.appl x s.puts)) frames
-          (c.put.ensures.puts s.puts s.at.appl h.ring (subst (λ b. s.at.appl % b ≡ r.appl % b) (sym r.sized.buffer) slot));
-      puts = PutsAreWide-put_at r.shape.frame_bytes s.at.appl fs s.puts (AreWide-part c.args.layout r s io c.args.first c.args.count h) h.puts;
-      taken = h.taken;
-      to_give = h.to_give;
-      moved = h.moved;
+      setup = record {
+        config = h.setup.config;
+        shape = h.setup.shape;
+        frame_bytes = h.setup.frame_bytes;
+        buffer = h.setup.buffer;
+        boundary = h.setup.boundary;
+        sw = h.setup.sw;
+        mappings = h.setup.mappings;
+      };
+      pointers = record {
+        hw = h.pointers.hw;
+        appl = h.pointers.appl;
+        filled = h.pointers.filled;
+      };
+      frames = record {
+        ring = subst (λ (x : List Frame). StandsForPuts c.put.new.self (put_at s.at.appl x s.puts)) frames
+            (c.put.ensures.puts s.puts s.at.appl h.frames.ring (subst (λ b. s.at.appl % b ≡ r.appl % b) (sym r.sized.buffer) slot));
+        puts = PutsAreWide-put_at r.shape.frame_bytes s.at.appl fs s.puts (AreWide-part c.args.layout r s io c.args.first c.args.count h) h.frames.puts;
+        taken = h.frames.taken;
+        to_give = h.frames.to_give;
+        moved = h.frames.moved;
+      };
     }
 
 pub returns-in-Planar-clause-put : goal.returns-in-Planar-clause-put
@@ -54,25 +60,31 @@ returns-in-Planar-clause-put c s h =
     let r = c.args.self.now in
     let io : List ℕ = c.args.io.now in
     let fs : List Frame = take c.args.count (drop c.args.first (frames_by c.args.layout s io)) in
-    let slot : s.at.appl % r.shape.buffer ≡ r.appl % r.shape.buffer = sym (shown-slot r.shape r.sound s.at.appl) ∙ ap (λ x. x % r.shape.buffer) (sym h.appl) in
+    let slot : s.at.appl % r.shape.buffer ≡ r.appl % r.shape.buffer = sym (shown-slot r.shape r.sound s.at.appl) ∙ ap (λ x. x % r.shape.buffer) (sym h.pointers.appl) in
     let frames : take c.args.count (drop c.args.first (frames_across_in r.ring io)) ≡ take c.args.count (drop c.args.first (frames_by c.args.layout s io)) =
     ap (λ (x : List Frame). take c.args.count (drop c.args.first x)) (planar-by r s io h)
     ∙ ap (λ (w : Layout). take c.args.count (drop c.args.first (frames_by w s io))) (sym c.in-Planar.is) in
     record {
-      config = h.config;
-      shape = h.shape;
-      frame_bytes = h.frame_bytes;
-      buffer = h.buffer;
-      boundary = h.boundary;
-      sw = h.sw;
-      mappings = h.mappings;
-      hw = h.hw;
-      appl = h.appl;
-      filled = h.filled;
-      ring = subst (λ (x : List Frame). StandsForPuts c.put_area.new.self (put_at s.at.appl x s.puts)) frames
-          (c.put_area.ensures.puts s.puts s.at.appl h.ring (subst (λ b. s.at.appl % b ≡ r.appl % b) (sym r.sized.buffer) slot));
-      puts = PutsAreWide-put_at r.shape.frame_bytes s.at.appl fs s.puts (AreWide-part c.args.layout r s io c.args.first c.args.count h) h.puts;
-      taken = h.taken;
-      to_give = h.to_give;
-      moved = h.moved;
+      setup = record {
+        config = h.setup.config;
+        shape = h.setup.shape;
+        frame_bytes = h.setup.frame_bytes;
+        buffer = h.setup.buffer;
+        boundary = h.setup.boundary;
+        sw = h.setup.sw;
+        mappings = h.setup.mappings;
+      };
+      pointers = record {
+        hw = h.pointers.hw;
+        appl = h.pointers.appl;
+        filled = h.pointers.filled;
+      };
+      frames = record {
+        ring = subst (λ (x : List Frame). StandsForPuts c.put_area.new.self (put_at s.at.appl x s.puts)) frames
+            (c.put_area.ensures.puts s.puts s.at.appl h.frames.ring (subst (λ b. s.at.appl % b ≡ r.appl % b) (sym r.sized.buffer) slot));
+        puts = PutsAreWide-put_at r.shape.frame_bytes s.at.appl fs s.puts (AreWide-part c.args.layout r s io c.args.first c.args.count h) h.frames.puts;
+        taken = h.frames.taken;
+        to_give = h.frames.to_give;
+        moved = h.frames.moved;
+      };
     }

@@ -9,6 +9,6 @@ pub returns-clause-frames : goal.returns-clause-frames
 returns-clause-frames c s at h =
     let r = c.args.self.now in
     let slot : s.at.card % r.ring.buffer ≡ c.args.position % r.ring.buffer = slot-again r.shape.buffer r.ring.buffer c.args.position s.at.card r.sized.buffer at in
-    ap (take (c.args.count * r.shape.frame_bytes)) (written_whole r.piece.len c.read_front.new.piece r.piece.items (c.read_front.auto.piece ∙ ap length c.deref_mut.ensures.value) (sym r.piece.ok.0)) ∙ c.read_front.ensures s.puts s.at.card h.ring slot
+    ap (take (c.args.count * r.shape.frame_bytes)) (written_whole r.piece.len c.read_front.new.piece r.piece.items (c.read_front.auto.piece ∙ ap length c.deref_mut.ensures.value) (sym r.piece.ok.0)) ∙ c.read_front.ensures s.puts s.at.card h.frames.ring slot
     ∙ read-as s.puts r.ring.buffer s.setup.buffer s.at.card (c.args.count * r.shape.frame_bytes / r.ring.frame_bytes) c.args.count r.ring.frame_bytes s.setup.frame_bytes
-    (r.sized.buffer ∙ sym h.buffer) (size-count r.shape r.ring c.args.count r.sound r.sized) (r.sized.frame_bytes ∙ sym h.frame_bytes)
+    (r.sized.buffer ∙ sym h.setup.buffer) (size-count r.shape r.ring c.args.count r.sound r.sized) (r.sized.frame_bytes ∙ sym h.setup.frame_bytes)

@@ -12,21 +12,27 @@ pub returns-clause-stored : goal.returns-clause-stored
 returns-clause-stored c s h =
     let r = c.args.self.now in
     let bytes : List ℕ = c.args.frames.now in
-    let frames : frames_in r.ring bytes ≡ frames_of_stream s bytes = ap (λ w. frames_of (length bytes / w) w bytes) (r.sized.frame_bytes ∙ sym h.frame_bytes) in
+    let frames : frames_in r.ring bytes ≡ frames_of_stream s bytes = ap (λ w. frames_of (length bytes / w) w bytes) (r.sized.frame_bytes ∙ sym h.setup.frame_bytes) in
     record {
-      config = h.config;
-      shape = h.shape;
-      frame_bytes = h.frame_bytes;
-      buffer = h.buffer;
-      boundary = h.boundary;
-      sw = h.sw;
-      mappings = h.mappings;
-      hw = h.hw;
-      appl = h.appl;
-      filled = h.filled;
-      ring = subst (λ (x : List Frame). StandsForPuts c.put.new.self (put_at c.args.slot x s.puts)) frames (c.put.ensures.puts s.puts c.args.slot h.ring refl);
-      puts = PutsAreWide-put_at r.shape.frame_bytes c.args.slot (frames_of_stream s bytes) s.puts (AreWide-by layout.Interleaved r s bytes h) h.puts;
-      taken = h.taken;
-      to_give = h.to_give;
-      moved = h.moved;
+      setup = record {
+        config = h.setup.config;
+        shape = h.setup.shape;
+        frame_bytes = h.setup.frame_bytes;
+        buffer = h.setup.buffer;
+        boundary = h.setup.boundary;
+        sw = h.setup.sw;
+        mappings = h.setup.mappings;
+      };
+      pointers = record {
+        hw = h.pointers.hw;
+        appl = h.pointers.appl;
+        filled = h.pointers.filled;
+      };
+      frames = record {
+        ring = subst (λ (x : List Frame). StandsForPuts c.put.new.self (put_at c.args.slot x s.puts)) frames (c.put.ensures.puts s.puts c.args.slot h.frames.ring refl);
+        puts = PutsAreWide-put_at r.shape.frame_bytes c.args.slot (frames_of_stream s bytes) s.puts (AreWide-by layout.Interleaved r s bytes h) h.frames.puts;
+        taken = h.frames.taken;
+        to_give = h.frames.to_give;
+        moved = h.frames.moved;
+      };
     }

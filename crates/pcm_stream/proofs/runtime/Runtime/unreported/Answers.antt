@@ -6,8 +6,8 @@ pub returns-then-position-slot-clause-model : goal.returns-then-position-slot-cl
 returns-then-position-slot-clause-model c s at h placed =
     let r = c.args.self.now in
     let b : ℕ = r.shape.buffer in
-    let near : s.at.card < s.at.hw + b = omega (arith, placed.near, h.buffer) in
-    let slot : r.ptr.hw - r.ptr.base ≡ s.at.hw % b = slot-shown_ptr r.shape r.ptr r.sound r.based s.at.hw h.hw in
+    let near : s.at.card < s.at.hw + b = omega (arith, placed.near, h.setup.buffer) in
+    let slot : r.ptr.hw - r.ptr.base ≡ s.at.hw % b = slot-shown_ptr r.shape r.ptr r.sound r.based s.at.hw h.pointers.hw in
     let way : (c.args.position + b - (r.ptr.hw - r.ptr.base)) % b ≡ s.at.card - s.at.hw =
     ap (λ n. (n + b - (r.ptr.hw - r.ptr.base)) % b) at ∙ gone-slots b s.at.card s.at.hw (r.ptr.hw - r.ptr.base) placed.reported near slot in
     gone-below b c.args.position (r.ptr.hw - r.ptr.base) (s.at.card - s.at.hw) way (omega arith) (omega (arith, r.based.low, r.based.high))
@@ -16,8 +16,8 @@ pub returns-else-position-slot-clause-model : goal.returns-else-position-slot-cl
 returns-else-position-slot-clause-model c s at h placed =
     let r = c.args.self.now in
     let b : ℕ = r.shape.buffer in
-    let near : s.at.card < s.at.hw + b = omega (arith, placed.near, h.buffer) in
-    let slot : r.ptr.hw - r.ptr.base ≡ s.at.hw % b = slot-shown_ptr r.shape r.ptr r.sound r.based s.at.hw h.hw in
+    let near : s.at.card < s.at.hw + b = omega (arith, placed.near, h.setup.buffer) in
+    let slot : r.ptr.hw - r.ptr.base ≡ s.at.hw % b = slot-shown_ptr r.shape r.ptr r.sound r.based s.at.hw h.pointers.hw in
     let way : (c.args.position + b - (r.ptr.hw - r.ptr.base)) % b ≡ s.at.card - s.at.hw =
     ap (λ n. (n + b - (r.ptr.hw - r.ptr.base)) % b) at ∙ gone-slots b s.at.card s.at.hw (r.ptr.hw - r.ptr.base) placed.reported near slot in
     gone-above b c.args.position (r.ptr.hw - r.ptr.base) (s.at.card - s.at.hw) way (omega arith) c.requires

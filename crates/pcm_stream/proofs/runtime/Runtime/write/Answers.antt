@@ -21,19 +21,25 @@ returns-clause-put c s fs at h count wide front =
     frames_in-bytes_of r.shape r.ring c.args.count (take (c.args.count * r.shape.frame_bytes) c.deref.result.now) fs r.sound r.sized count wide bytes in
     let slot : s.at.card % r.ring.buffer ≡ c.args.position % r.ring.buffer = slot-again r.shape.buffer r.ring.buffer c.args.position s.at.card r.sized.buffer at in
     record {
-      config = h.config;
-      shape = h.shape;
-      frame_bytes = h.frame_bytes;
-      buffer = h.buffer;
-      boundary = h.boundary;
-      sw = h.sw;
-      mappings = h.mappings;
-      hw = h.hw;
-      appl = h.appl;
-      filled = h.filled;
-      ring = subst (λ (x : List Frame). StandsForPuts c.put.new.self (put_at s.at.card x s.puts)) frames (c.put.ensures.puts s.puts s.at.card h.ring slot);
-      puts = PutsAreWide-put_at r.shape.frame_bytes s.at.card fs s.puts wide h.puts;
-      taken = h.taken;
-      to_give = h.to_give;
-      moved = h.moved;
+      setup = record {
+        config = h.setup.config;
+        shape = h.setup.shape;
+        frame_bytes = h.setup.frame_bytes;
+        buffer = h.setup.buffer;
+        boundary = h.setup.boundary;
+        sw = h.setup.sw;
+        mappings = h.setup.mappings;
+      };
+      pointers = record {
+        hw = h.pointers.hw;
+        appl = h.pointers.appl;
+        filled = h.pointers.filled;
+      };
+      frames = record {
+        ring = subst (λ (x : List Frame). StandsForPuts c.put.new.self (put_at s.at.card x s.puts)) frames (c.put.ensures.puts s.puts s.at.card h.frames.ring slot);
+        puts = PutsAreWide-put_at r.shape.frame_bytes s.at.card fs s.puts wide h.frames.puts;
+        taken = h.frames.taken;
+        to_give = h.frames.to_give;
+        moved = h.frames.moved;
+      };
     }

@@ -30,15 +30,15 @@ returns-clause-moved g c s h can =
     ∙ ap (λ (x : ℕ). ((g.C.Card.facts c.args.self.now.card).position + x) % r.shape.buffer) (whole-count c.args.n w r.sound.frame)
     ∙ position-on r.shape.buffer (g.C.Card.facts c.args.self.now.card).position s.at.card c.args.n stood in
     let to_give : (g.C.Card.facts c.receive.new.card).to_give ≡ bytes_of (drop c.args.n s.card.to_give) =
-    ap (λ (f : CardFacts). f.to_give) after ∙ ap (drop (c.args.n * w)) h.shows.to_give ∙ drop-bytes_of w c.args.n s.card.to_give kept.to_give in
+    ap (λ (f : CardFacts). f.to_give) after ∙ ap (drop (c.args.n * w)) h.shows.to_give ∙ drop-bytes_of w c.args.n s.card.to_give kept.frames.to_give in
     let front : take (c.args.n * r.shape.frame_bytes) c.receive.new.self.piece.items ≡ bytes_of (given_by c.args.n s) =
-    c.receive.ensures.given ∙ ap (given_bytes (c.args.n * w)) h.shows.to_give ∙ given-bytes c.args.n w s kept.frame_bytes kept.to_give in
+    c.receive.ensures.given ∙ ap (given_bytes (c.args.n * w)) h.shows.to_give ∙ given-bytes c.args.n w s kept.setup.frame_bytes kept.frames.to_give in
     let put : Keeps c.write.new.self (with_puts (put_at s.at.card (given_by c.args.n s) s.puts) (known s)) =
     c.write.ensures.put s (given_by c.args.n s)
     (c.position-position.ensures.value ∙ stood ∙ ap (λ (x : Shape). s.at.card % x.buffer) (sym sizes))
     (c.receive.ensures.same s kept)
     (length-given c.args.n s)
-    (subst (λ (x : Shape). AreWide x.frame_bytes (given_by c.args.n s)) (sym sizes) (AreWide-given c.args.n w s kept.frame_bytes kept.to_give))
+    (subst (λ (x : Shape). AreWide x.frame_bytes (given_by c.args.n s)) (sym sizes) (AreWide-given c.args.n w s kept.setup.frame_bytes kept.frames.to_give))
     (subst (λ (x : Shape). take (c.args.n * x.frame_bytes) c.receive.new.self.piece.items ≡ bytes_of (given_by c.args.n s)) (sym sizes) front) in
     let now : RunsFor c.count.new.self (captured c.args.n s) =
     captured-kept c.count.new.self c.args.n s (c.count.ensures.counted (with_puts (put_at s.at.card (given_by c.args.n s) s.puts) (known s)) put) in

@@ -19,9 +19,9 @@ returns-then-n-room-clause-moved g c s h other =
     let r = c.in-Some.runtime in
     let kept = h.shows.runs_for r c.in-Some.is in
     let runs : s.card.runs ≡ true = sym h.runs ∙ sym c.runs.ensures ∙ c.if-not-runs.false in
-    let placed : IsPlaced s = (configured r.config s kept.config h.sound).placed in
+    let placed : IsPlaced s = (configured r.config s kept.setup.config h.sound).placed in
     let gone : c.unreported.result ≡ s.at.card - s.at.hw = c.unreported.ensures.model s (c.position.ensures.value ∙ h.shows.position r c.in-Some.is) kept placed in
-    let far = far-by c.args.n r.shape.buffer c.unreported.result s gone placed kept.buffer c.if-n-room.true in
+    let far = far-by c.args.n r.shape.buffer c.unreported.result s gone placed kept.setup.buffer c.if-n-room.true in
     stands-at _ (move c.args.n s).stream s (ap (λ (m : Movement). m.stream) (move-late c.args.n s runs far))
     (stands-as c.args.self.now _ s refl refl refl refl refl refl h)
 
@@ -29,12 +29,12 @@ pub returns-in-Playback-clause-reply : goal.returns-in-Playback-clause-reply
 returns-in-Playback-clause-reply g c s h =
     let r = c.in-Some.runtime in
     let kept = h.shows.runs_for r c.in-Some.is in
-    let placed : IsPlaced s = (configured r.config s kept.config h.sound).placed in
+    let placed : IsPlaced s = (configured r.config s kept.setup.config h.sound).placed in
     let gone : c.unreported.result ≡ s.at.card - s.at.hw = c.unreported.ensures.model s (c.position.ensures.value ∙ h.shows.position r c.in-Some.is) kept placed in
     let can : CanMove dir.Playback c.args.n s = record {
       dir = sym h.shows.dir ∙ c.in-Playback.is;
       runs = sym h.runs ∙ sym c.runs.ensures ∙ c.if-not-runs.false;
-      near = near-by c.args.n r.shape.buffer c.unreported.result s gone placed kept.buffer c.unreported.ensures.below c.if-n-room.false;
+      near = near-by c.args.n r.shape.buffer c.unreported.result s gone placed kept.setup.buffer c.unreported.ensures.below c.if-n-room.false;
     } in
     c.play.ensures.reply s (stands-as c.args.self.now _ s refl refl refl refl refl refl h) can
 
@@ -42,12 +42,12 @@ pub returns-in-Playback-clause-moved : goal.returns-in-Playback-clause-moved
 returns-in-Playback-clause-moved g c s h other =
     let r = c.in-Some.runtime in
     let kept = h.shows.runs_for r c.in-Some.is in
-    let placed : IsPlaced s = (configured r.config s kept.config h.sound).placed in
+    let placed : IsPlaced s = (configured r.config s kept.setup.config h.sound).placed in
     let gone : c.unreported.result ≡ s.at.card - s.at.hw = c.unreported.ensures.model s (c.position.ensures.value ∙ h.shows.position r c.in-Some.is) kept placed in
     let can : CanMove dir.Playback c.args.n s = record {
       dir = sym h.shows.dir ∙ c.in-Playback.is;
       runs = sym h.runs ∙ sym c.runs.ensures ∙ c.if-not-runs.false;
-      near = near-by c.args.n r.shape.buffer c.unreported.result s gone placed kept.buffer c.unreported.ensures.below c.if-n-room.false;
+      near = near-by c.args.n r.shape.buffer c.unreported.result s gone placed kept.setup.buffer c.unreported.ensures.below c.if-n-room.false;
     } in
     c.play.ensures.moved s (stands-as c.args.self.now _ s refl refl refl refl refl refl h) can other
 
@@ -55,11 +55,11 @@ pub returns-in-Capture-clause-moved : goal.returns-in-Capture-clause-moved
 returns-in-Capture-clause-moved g c s h other =
     let r = c.in-Some.runtime in
     let kept = h.shows.runs_for r c.in-Some.is in
-    let placed : IsPlaced s = (configured r.config s kept.config h.sound).placed in
+    let placed : IsPlaced s = (configured r.config s kept.setup.config h.sound).placed in
     let gone : c.unreported.result ≡ s.at.card - s.at.hw = c.unreported.ensures.model s (c.position.ensures.value ∙ h.shows.position r c.in-Some.is) kept placed in
     let can : CanMove dir.Capture c.args.n s = record {
       dir = sym h.shows.dir ∙ c.in-Capture.is;
       runs = sym h.runs ∙ sym c.runs.ensures ∙ c.if-not-runs.false;
-      near = near-by c.args.n r.shape.buffer c.unreported.result s gone placed kept.buffer c.unreported.ensures.below c.if-n-room.false;
+      near = near-by c.args.n r.shape.buffer c.unreported.result s gone placed kept.setup.buffer c.unreported.ensures.below c.if-n-room.false;
     } in
     c.capture.ensures.moved s (stands-as c.args.self.now _ s refl refl refl refl refl refl h) can

@@ -8,4 +8,4 @@ pub returns-in-Some : goal.returns-in-Some
 returns-in-Some g c s h sound =
     let r : RunsFor c.in-Some.runtime s = h.runs_for c.in-Some.runtime c.in-Some.is in
     let e : c.avail.result ≡ avail s = c.avail.ensures.model s (sym h.dir) r (runtime-configured c.in-Some.runtime s r sound).placed in
-    ap (λ n. nat_lt n c.in-Some.runtime.shape.buffer) e ∙ ap (λ n. nat_lt (avail s) n) (sym r.buffer)
+    ap (λ n. nat_lt n c.in-Some.runtime.shape.buffer) e ∙ ap (λ n. nat_lt (avail s) n) (sym r.setup.buffer)

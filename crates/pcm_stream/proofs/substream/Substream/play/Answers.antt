@@ -24,7 +24,7 @@ returns-then-total-gt-TAKEN_LIMIT-clause-reply g c s h can =
     let r = c.in-Some.runtime in
     let kept = h.shows.runs_for r c.in-Some.is in
     let total : length c.taken.result.now + c.args.n * r.shape.frame_bytes ≡ taken_bytes c.args.n s =
-    total-bytes c.args.n r.shape.frame_bytes s c.taken.result.now can.dir kept.frame_bytes kept.taken (c.taken.ensures ∙ h.shows.taken) in
+    total-bytes c.args.n r.shape.frame_bytes s c.taken.result.now can.dir kept.setup.frame_bytes kept.frames.taken (c.taken.ensures ∙ h.shows.taken) in
     let over : 67108864 < taken_bytes c.args.n s = subst (λ (x : ℕ). 67108864 < x) total c.if-total-gt-TAKEN_LIMIT.true in
     for_some (λ (x : Reply). x ≡ (move c.args.n s).reply) (reply.Limit (length c.taken.result.now + c.args.n * r.shape.frame_bytes))
     (ap (λ (x : ℕ). reply.Limit x) total ∙ sym (ap (λ (m : Movement). m.reply) (move-limit c.args.n s can.runs can.near over)))
@@ -35,7 +35,7 @@ returns-then-total-gt-TAKEN_LIMIT-clause-moved g c s h can other =
     let r = c.in-Some.runtime in
     let kept = h.shows.runs_for r c.in-Some.is in
     let total : length c.taken.result.now + c.args.n * r.shape.frame_bytes ≡ taken_bytes c.args.n s =
-    total-bytes c.args.n r.shape.frame_bytes s c.taken.result.now can.dir kept.frame_bytes kept.taken (c.taken.ensures ∙ h.shows.taken) in
+    total-bytes c.args.n r.shape.frame_bytes s c.taken.result.now can.dir kept.setup.frame_bytes kept.frames.taken (c.taken.ensures ∙ h.shows.taken) in
     let over : 67108864 < taken_bytes c.args.n s = subst (λ (x : ℕ). 67108864 < x) total c.if-total-gt-TAKEN_LIMIT.true in
     stands-at _ (move c.args.n s).stream s (ap (λ (m : Movement). m.stream) (move-limit c.args.n s can.runs can.near over))
     (stands-as c.args.self.now _ s refl refl refl refl refl (sym c.in-Some.is) h)
@@ -59,7 +59,7 @@ returns-clause-reply g c s h can =
     let r = c.in-Some.runtime in
     let kept = h.shows.runs_for r c.in-Some.is in
     let total : length c.taken.result.now + c.args.n * r.shape.frame_bytes ≡ taken_bytes c.args.n s =
-    total-bytes c.args.n r.shape.frame_bytes s c.taken.result.now can.dir kept.frame_bytes kept.taken (c.taken.ensures ∙ h.shows.taken) in
+    total-bytes c.args.n r.shape.frame_bytes s c.taken.result.now can.dir kept.setup.frame_bytes kept.frames.taken (c.taken.ensures ∙ h.shows.taken) in
     let within : taken_bytes c.args.n s ≤ 67108864 = subst (λ (x : ℕ). x ≤ 67108864) total c.if-total-gt-TAKEN_LIMIT.false in
     for_some (λ (x : Reply). x ≡ (move c.args.n s).reply) (reply.Moved c.args.n) (sym (ap (λ (m : Movement). m.reply) (move-done c.args.n s can.runs can.near within)))
 
@@ -68,7 +68,7 @@ returns-clause-moved g c s h can other =
     let r = c.in-Some.runtime in
     let kept = h.shows.runs_for r c.in-Some.is in
     let total : length c.taken.result.now + c.args.n * r.shape.frame_bytes ≡ taken_bytes c.args.n s =
-    total-bytes c.args.n r.shape.frame_bytes s c.taken.result.now can.dir kept.frame_bytes kept.taken (c.taken.ensures ∙ h.shows.taken) in
+    total-bytes c.args.n r.shape.frame_bytes s c.taken.result.now can.dir kept.setup.frame_bytes kept.frames.taken (c.taken.ensures ∙ h.shows.taken) in
     let within : taken_bytes c.args.n s ≤ 67108864 = subst (λ (x : ℕ). x ≤ 67108864) total c.if-total-gt-TAKEN_LIMIT.false in
     let same : (move c.args.n s).stream ≡ played c.args.n s = move-played c.args.n s can.dir can.runs can.near within in
     let facts = c.reserve.ensures.same in

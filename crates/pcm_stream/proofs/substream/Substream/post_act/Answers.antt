@@ -14,7 +14,7 @@ returns-in-Start-clause-done g c s h =
     let t : Stream = consulted s in
     let shows : Shows {C = g.row.C.Denot} {g = g.C.Card} c.args.self.now t = Shows-asked act.Start c.args.self.now s h.shows in
     posted c.args.act act.Start c.args.self.now c.put_silence.new.self s c.in-Start.is c.requires.stop h
-    (ap (λ f. f.runs) c.put_silence.ensures.card) (ap (λ f. f.plan) c.put_silence.ensures.card)
+    (ap (λ f. f.runs) c.put_silence.ensures.keeps.card) (ap (λ f. f.plan) c.put_silence.ensures.keeps.card)
     (c.put_silence.ensures.shows (turned t state.Running t.kept true t.card.plan)
     (Shows-turned c.args.self.now _ t state.Running t.kept true t.card.plan
     (record { dir = refl; long_max = refl; runtime = refl; model = refl; taken = refl; to_give = refl; position = refl }) refl shows.kept shows)
@@ -50,16 +50,16 @@ returns-in-Suspend-clause-done g c s h =
 pub returns-in-Resume-clause-done : goal.returns-in-Resume-clause-done
 returns-in-Resume-clause-done g c s h =
     posted c.args.act act.Resume c.args.self.now c.post_resume.new.self s c.in-Resume.is c.requires.stop h
-    (ap (λ f. f.runs) c.post_resume.ensures.card) (ap (λ f. f.plan) c.post_resume.ensures.card)
+    (ap (λ f. f.runs) c.post_resume.ensures.keeps.card) (ap (λ f. f.plan) c.post_resume.ensures.keeps.card)
     (c.post_resume.ensures.shows (asked s act.Resume) (Shows-asked act.Resume c.args.self.now s h.shows))
 
 pub returns-in-Drain-clause-done : goal.returns-in-Drain-clause-done
 returns-in-Drain-clause-done g c s h =
     posted c.args.act act.Drain c.args.self.now c.post_drain.new.self s c.in-Drain.is c.requires.stop h
-    (ap (λ f. f.runs) c.post_drain.ensures.card) (ap (λ f. f.plan) c.post_drain.ensures.card)
+    (ap (λ f. f.runs) c.post_drain.ensures.keeps.card) (ap (λ f. f.plan) c.post_drain.ensures.keeps.card)
     (c.post_drain.ensures.shows (asked s act.Drain) (Shows-asked act.Drain c.args.self.now s h.shows) (Sound-asked act.Drain s h.sound))
 
 pub returns-in-Stop-clause-done : goal.returns-in-Stop-clause-done
 returns-in-Stop-clause-done g c s h =
-    posted c.args.act (act.Stop c.in-Stop.state) c.args.self.now c.post_stop.new.self s c.in-Stop.is c.requires.stop h (ap (λ f. f.runs) c.post_stop.ensures.card) (ap (λ f. f.plan) c.post_stop.ensures.card)
+    posted c.args.act (act.Stop c.in-Stop.state) c.args.self.now c.post_stop.new.self s c.in-Stop.is c.requires.stop h (ap (λ f. f.runs) c.post_stop.ensures.keeps.card) (ap (λ f. f.plan) c.post_stop.ensures.keeps.card)
     (c.post_stop.ensures.shows s h.shows)

@@ -6,7 +6,5 @@ pub returns-in_default : goal.returns-in_default
 returns-in_default g c = record {
   shows = λ s h. Shows-stopped c.args.self.now _ s c.args.state
       (record { dir = refl; long_max = refl; runtime = refl; model = refl; taken = refl; to_give = refl; position = refl }) refl refl c.in_default.not-Closed c.in_default.not-Opened c.in_default.not-Disconnected h;
-  card = refl;
-  faults = refl;
-  shape = refl;
+  keeps = record { sizes = record { faults = record { count = refl; tells = refl }; shape = refl }; card = refl };
 }

@@ -19,7 +19,7 @@ returns-in-Some-clause-put g c s h few =
     let fs : List Frame = take c.args.count (drop c.args.first (frames_by c.args.layout s c.args.io.now)) in
     let now : RunsFor c.put.new.self (put_next fs s) = c.put.ensures.put s kept in
     let size : length fs ≡ c.args.count =
-    length-part c.args.layout s c.args.io.now c.args.first c.args.count r.shape.frame_bytes kept.frame_bytes
+    length-part c.args.layout s c.args.io.now c.args.first c.args.count r.shape.frame_bytes kept.setup.frame_bytes
     (c.requires.within r.shape (ap (option_map (λ (x : Runtime). x.shape)) c.in-Some.is)) in
     record {
       shows = record {

@@ -9,4 +9,4 @@ returns-in-Some-clause-shows g c s h placed =
     let r : RunsFor c.in-Some.runtime s = h.runs_for c.in-Some.runtime c.in-Some.is in
     let way : s.dir ≡ Playback = sym h.dir ∙ c.in-Playback.is in
     Shows-filled c.args.self.now _ s c.in-Some.runtime c.fill.new.self (record { dir = refl; long_max = refl; state = refl; kept = refl; card = refl })
-    c.in-Some.is refl c.fill.ensures.shape (c.fill.ensures.filled s way r (placed c.in-Some.runtime.config r.config)) h
+    c.in-Some.is refl c.fill.ensures.shape (c.fill.ensures.filled s way r (placed c.in-Some.runtime.config r.setup.config)) h

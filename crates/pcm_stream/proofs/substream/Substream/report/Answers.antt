@@ -13,7 +13,7 @@ pub returns-in-Playback-clause-model : goal.returns-in-Playback-clause-model
 returns-in-Playback-clause-model g c s h runs =
     let r = c.in-Some.runtime in
     let kept = h.shows.runs_for r c.in-Some.is in
-    let whole = configured r.config s kept.config h.sound in
+    let whole = configured r.config s kept.setup.config h.sound in
     let at = c.position.ensures.value ∙ h.shows.position r c.in-Some.is in
     let near : RunsFor c.report.new.self (lap (reported s)) = c.report.ensures.reported s at kept whole.placed in
     let now : RunsFor c.fill.new.self (moved_up s) = c.fill.ensures.filled (lap (reported s)) (sym h.shows.dir ∙ c.in-Playback.is) near (placed-reported r.config s whole) in
@@ -33,14 +33,14 @@ returns-in-Playback-clause-model g c s h runs =
       };
       runs = h.runs;
       plan = h.plan;
-      sound = sound_configured r.config (moved_up s) kept.config (IsConfigured-moved_up r.config s whole);
+      sound = sound_configured r.config (moved_up s) kept.setup.config (IsConfigured-moved_up r.config s whole);
     }
 
 pub returns-in-Capture-clause-model : goal.returns-in-Capture-clause-model
 returns-in-Capture-clause-model g c s h runs =
     let r = c.in-Some.runtime in
     let kept = h.shows.runs_for r c.in-Some.is in
-    let whole = configured r.config s kept.config h.sound in
+    let whole = configured r.config s kept.setup.config h.sound in
     let at = c.position.ensures.value ∙ h.shows.position r c.in-Some.is in
     let near : RunsFor c.report.new.self (lap (reported s)) = c.report.ensures.reported s at kept whole.placed in
     let same : moved_up s ≡ lap (reported s) = fill-capture (lap (reported s)) (sym h.shows.dir ∙ c.in-Capture.is) in
@@ -61,5 +61,5 @@ returns-in-Capture-clause-model g c s h runs =
       };
       runs = h.runs;
       plan = h.plan;
-      sound = sound_configured r.config (moved_up s) kept.config (IsConfigured-moved_up r.config s whole);
+      sound = sound_configured r.config (moved_up s) kept.setup.config (IsConfigured-moved_up r.config s whole);
     }

@@ -7,4 +7,4 @@ use Rattle.pcm_stream.proofs.substream.Substream.sw.Goals as goal
 pub returns-in-Some : goal.returns-in-Some
 returns-in-Some g c s h =
     let runs = h.shows.runs_for c.in-Some.runtime c.in-Some.is in
-    sym (ap (option_map (λ _. s.setup.sw)) runs.config ∙ ap (λ (x : SwParams). Some x) runs.sw)
+    sym (ap (option_map (λ _. s.setup.sw)) runs.setup.config ∙ ap (λ (x : SwParams). Some x) runs.setup.sw)
