@@ -15,7 +15,8 @@ ghost use Rattle.pcm_base.specs.model.Stream.{Stream};
 ghost use Rattle.pcm_base.specs.model.Transfer.{frames_in};
 ghost use Rattle.pcm_stream.specs.Buffer.{loaded_from, stored_at};
 ghost use Rattle.pcm_stream.specs.Mappings.{mappings_in};
-ghost use Rattle.pcm_stream.specs.StandsFor.{StandsFor, faults_of, shape_in, tells_plan};
+ghost use Rattle.pcm_stream.specs.Kept.{KeepsSizes};
+ghost use Rattle.pcm_stream.specs.StandsFor.{StandsFor, shape_in};
 ghost use Rattle.mmap_pages.specs.Mapped.{count_in, load_refusal, map_refusal, store_refusal, unmap_refusal};
 
 #[cfg(test)]
@@ -43,9 +44,7 @@ fn is_mapped(config: &Config) -> bool
 pub fn map_sub<C: Card>(stream: &mut Substream<C>) -> Result<(), Errno>
     ensures ok { (s : Stream) → StandsFor stream.old s → OnOk result ((map_refusal s ≡ None) × StandsFor stream.new (set_mappings (s.mappings + 1) s)) }
     ensures refused { (s : Stream) → StandsFor stream.old s → IfErr result (λ e. (map_refusal s ≡ Some e) × StandsFor stream.new s) }
-    ensures shape { shape_in stream.new ≡ shape_in stream.old }
-    ensures faults { faults_of stream.new ≡ faults_of stream.old }
-    ensures tells { tells_plan stream.new ≡ tells_plan stream.old }
+    ensures keeps { KeepsSizes stream.old stream.new }
 {
     permit(CallKind::Map, stream.state(), stream.dir())?;
     let (Some(config), Some(_)) = (stream.config(), stream.shape()) else {
@@ -66,9 +65,7 @@ pub fn map_sub<C: Card>(stream: &mut Substream<C>) -> Result<(), Errno>
 pub fn unmap_sub<C: Card>(stream: &mut Substream<C>) -> Result<(), Errno>
     ensures ok { (s : Stream) → StandsFor stream.old s → OnOk result ((unmap_refusal s ≡ None) × StandsFor stream.new (set_mappings (s.mappings - 1) s)) }
     ensures refused { (s : Stream) → StandsFor stream.old s → IfErr result (λ e. (unmap_refusal s ≡ Some e) × StandsFor stream.new s) }
-    ensures shape { shape_in stream.new ≡ shape_in stream.old }
-    ensures faults { faults_of stream.new ≡ faults_of stream.old }
-    ensures tells { tells_plan stream.new ≡ tells_plan stream.old }
+    ensures keeps { KeepsSizes stream.old stream.new }
 {
     let mappings = stream.mappings();
     if mappings == 0 {
@@ -117,9 +114,7 @@ pub fn store_frames<C: Card>(
     ensures ok { (s : Stream) → StandsFor stream.old s
         → IfOk result (λ n. (store_refusal offset frames.now s ≡ None) × (n ≡ count_in s frames.now) × StandsFor stream.new (stored_at offset (frames_in s frames.now) s)) }
     ensures refused { (s : Stream) → StandsFor stream.old s → IfErr result (λ e. (store_refusal offset frames.now s ≡ Some e) × StandsFor stream.new s) }
-    ensures shape { shape_in stream.new ≡ shape_in stream.old }
-    ensures faults { faults_of stream.new ≡ faults_of stream.old }
-    ensures tells { tells_plan stream.new ≡ tells_plan stream.old }
+    ensures keeps { KeepsSizes stream.old stream.new }
 {
     let count = frames_to_store(stream, offset, frames)?;
     stream.store_at(offset, frames);

@@ -54,7 +54,7 @@ pub config_in : {C : Type 0} {g : Ghosts C} (sub : Substream C g) (s : Stream) �
 config_in sub s k h = by sub.runtime refl k
   where
     by : (o : Option Runtime) → sub.runtime ≡ o → IsSome (option_map (λ r. r.shape) o) → HasConfig s
-    by (Some r) e q = record { config = r.config; is = (h.shows.runs_for r e).config }
+    by (Some r) e q = record { config = r.config; is = (h.shows.runs_for r e).setup.config }
     by None e q = absurd (cc)
 
 -- a configured stream has room
@@ -66,8 +66,8 @@ room-of sub s k h = room_in s (config_in sub s k h) h.sound
 
 -- a turn leaves all but the application position and the puts
 turned-by : (b : Bool) (n : ℕ) (fs : List Frame) (s : Stream) → IsTurned s (if b then put_next fs s else on_by n s)
-turned-by true n fs s = record { dir = refl; model = refl; long_max = refl; state = refl; kept = refl; setup = refl; mappings = refl; hw = refl; card_at = refl; filled = refl; moved = refl; card = refl; sleepers = refl }
-turned-by false n fs s = record { dir = refl; model = refl; long_max = refl; state = refl; kept = refl; setup = refl; mappings = refl; hw = refl; card_at = refl; filled = refl; moved = refl; card = refl; sleepers = refl }
+turned-by true n fs s = refl
+turned-by false n fs s = refl
 
 pub IsTurned-after : (x : Xfer) (io : List ℕ) (s : Stream) → IsTurned s (stream_after x io s)
 IsTurned-after x io s = turned-by x.writing (turn x.rest s) (take (turn x.rest s) (drop x.moved (frames_by x.layout s io))) s
@@ -218,7 +218,7 @@ part-length sub s x io n k count h few = by sub.runtime refl k
     by : (o : Option Runtime) → sub.runtime ≡ o → IsSome (option_map (λ r. r.shape) o) → length (take n (drop x.moved (frames_by x.layout s io))) ≡ n
     by (Some r) e q =
         let all : count_of r.shape io ≡ x.moved + x.rest = count r.shape (ap (option_map (λ (y : Runtime). y.shape)) e) in
-        length-part x.layout s io x.moved n r.shape.frame_bytes (h.shows.runs_for r e).frame_bytes (omega (arith, all, few))
+        length-part x.layout s io x.moved n r.shape.frame_bytes (h.shows.runs_for r e).setup.frame_bytes (omega (arith, all, few))
     by None e q = absurd (cc)
 
 -- they are no more than the bytes

@@ -55,20 +55,8 @@ ReadsGoByTurns = (c : ClientId) (x y : Xfer) (fs : List Frame) (s : Stream) → 
 -- ---- what turns leave
 
 -- The stream after some turns of a transfer: the application position and the puts alone are others.
-pub record IsTurned (s t : Stream) : Type 0 where
-  pub dir : t.dir ≡ s.dir
-  pub model : t.model ≡ s.model
-  pub long_max : t.long_max ≡ s.long_max
-  pub state : t.state ≡ s.state
-  pub kept : t.kept ≡ s.kept
-  pub setup : t.setup ≡ s.setup
-  pub mappings : t.mappings ≡ s.mappings
-  pub hw : t.at.hw ≡ s.at.hw
-  pub card_at : t.at.card ≡ s.at.card
-  pub filled : t.at.filled ≡ s.at.filled
-  pub moved : t.moved ≡ s.moved
-  pub card : t.card ≡ s.card
-  pub sleepers : t.sleepers ≡ s.sleepers
+abbrev pub IsTurned : Stream → Stream → Type 0
+IsTurned s t = t ≡ record s { at = record s.at { appl = t.at.appl }; puts = t.puts }
 
 abbrev pub TurnsKeepTheRest : Type 0
 TurnsKeepTheRest = (x : Xfer) (io : List ℕ) (s : Stream) → IsTurned s (stream_after x io s)

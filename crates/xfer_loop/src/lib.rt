@@ -13,7 +13,8 @@ ghost use Rattle.pcm_base.specs.model.Stream.{Stream, avail};
 ghost use Rattle.pcm_base.specs.model.Transfer.{frames_by, is_filled as is_filled_in};
 ghost use Rattle.pcm_base.specs.model.Words.{is_prepared};
 ghost use Rattle.pcm_laws.specs.Turns.{turn as turn_of};
-ghost use Rattle.pcm_stream.specs.StandsFor.{StandsFor, faults_of, shape_in, tells_plan};
+ghost use Rattle.pcm_stream.specs.Kept.{KeepsSizes};
+ghost use Rattle.pcm_stream.specs.StandsFor.{StandsFor, shape_in};
 ghost use Rattle.xfer_loop.specs.Turn.{IsStuck, bytes_after, bytes_moved, frames_after, frames_moved, step_of, stream_after, stream_moved, stuck_step, xfer_after};
 
 pub mod laws;
@@ -93,9 +94,7 @@ fn move_frames<C: Card>(stream: &mut Substream<C>, xfer: &Xfer, io: &mut [u8], c
     ensures frames { (s : Stream) → StandsFor stream.old s → frames_by xfer.now.layout s io.new ≡ frames_moved xfer.now count io.old s }
     ensures bytes { (s : Stream) → StandsFor stream.old s → io.new ≡ bytes_moved xfer.now count io.old s }
     ensures written { xfer.now.writing ≡ true → io.new ≡ io.old }
-    ensures shape { shape_in stream.new ≡ shape_in stream.old }
-    ensures faults { faults_of stream.new ≡ faults_of stream.old }
-    ensures tells { tells_plan stream.new ≡ tells_plan stream.old }
+    ensures keeps { KeepsSizes stream.old stream.new }
 {
     if xfer.writing {
         stream.put_frames(xfer.layout, io, xfer.moved, count);
@@ -128,9 +127,7 @@ pub fn transfer<C: Card>(member: &mut Member<C>, xfer: &mut Xfer, io: &mut [u8])
     ensures untouched { IsStuck result → io.new ≡ io.old }
     ensures sub { member.new.sub ≡ member.old.sub }
     ensures sleepers { member.new.sleepers ≡ member.old.sleepers }
-    ensures shape { shape_in member.new.stream ≡ shape_in member.old.stream }
-    ensures faults { faults_of member.new.stream ≡ faults_of member.old.stream }
-    ensures tells { tells_plan member.new.stream ≡ tells_plan member.old.stream }
+    ensures keeps { KeepsSizes member.old.stream member.new.stream }
 {
     if xfer.rest == 0 {
         return XferStep::Moved(0);

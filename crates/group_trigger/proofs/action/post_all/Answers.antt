@@ -21,8 +21,8 @@ loop-i-preserved g c =
           c.at_mut.ensures.value (first_in-at Made i Did) (ap (λ (b : Bool). cond b Made Did) (lt-suc i)) (λ j ne. first_in-next Made i Did j ne)
           (λ s k. c.post_act.ensures.done s k)
           (c.loop-i.invariant.made ms h);
-      fixed = map-set fixed_of cur i m next c.at_mut.ensures.value (fixed-same m t c.post_act.ensures.shape c.post_act.ensures.tells) ∙ c.loop-i.invariant.fixed;
-      faults = map-set (λ (n : Member g.row.C.Denot g.C.Card). faults_of n.stream) cur i m next c.at_mut.ensures.value c.post_act.ensures.faults ∙ c.loop-i.invariant.faults;
+      fixed = map-set fixed_of cur i m next c.at_mut.ensures.value (fixed-same m t c.post_act.ensures.keeps.shape c.post_act.ensures.keeps.faults.tells) ∙ c.loop-i.invariant.fixed;
+      faults = map-set (λ (n : Member g.row.C.Denot g.C.Card). faults_of n.stream) cur i m next c.at_mut.ensures.value c.post_act.ensures.keeps.faults.count ∙ c.loop-i.invariant.faults;
     }
 
 pub returns-clause-made : goal.returns-clause-made

@@ -22,6 +22,6 @@ loop-i-preserved g c =
           c.at_mut.ensures.value (undone_to-at i k c.loop-i-test.true) (undone_to-now i k) (λ j ne. undone_to-next i k j ne)
           (λ s h'. c.undo_act.ensures.undone s h')
           (c.loop-i.invariant.undone ms h);
-      fixed = map-set fixed_of cur i m next c.at_mut.ensures.value (fixed-same m t c.undo_act.ensures.shape c.undo_act.ensures.tells) ∙ c.loop-i.invariant.fixed;
-      faults = map-set (λ (n : Member g.row.C.Denot g.C.Card). faults_of n.stream) cur i m next c.at_mut.ensures.value c.undo_act.ensures.faults ∙ c.loop-i.invariant.faults;
+      fixed = map-set fixed_of cur i m next c.at_mut.ensures.value (fixed-same m t c.undo_act.ensures.keeps.shape c.undo_act.ensures.keeps.faults.tells) ∙ c.loop-i.invariant.fixed;
+      faults = map-set (λ (n : Member g.row.C.Denot g.C.Card). faults_of n.stream) cur i m next c.at_mut.ensures.value c.undo_act.ensures.keeps.faults.count ∙ c.loop-i.invariant.faults;
     }
