@@ -433,7 +433,7 @@ all_size sub s x io k count h = by sub.runtime refl k
   where
     by : (o : Option Runtime) → sub.runtime ≡ o → IsSome (option_map (λ r. r.shape) o) → length (frames_by x.layout s io) ≡ x.moved + x.rest
     by (Some r) e q =
-        length-by x.layout s io ∙ ap (λ (b : ℕ). length io / b) (h.shows.runs_for r e).frame_bytes ∙ count r.shape (ap (option_map (λ (y : Runtime). y.shape)) e)
+        length-by x.layout s io ∙ ap (λ (b : ℕ). length io / b) (h.shows.runs_for r e).setup.frame_bytes ∙ count r.shape (ap (option_map (λ (y : Runtime). y.shape)) e)
     by None e q = absurd (cc)
 
 pub itself : (x : Xfer) → IsOnTheWay x x []

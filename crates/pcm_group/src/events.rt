@@ -20,7 +20,7 @@ ghost use Rattle.pcm_base.specs.model.Words.{is_closed, is_paused as is_paused_i
 ghost use Rattle.sleepers.specs.Clients.{has_client};
 ghost use Rattle.pcm_stream.specs.Members.{all_fixed, members_of, numbers_of};
 ghost use Rattle.pcm_stream.specs.MembersStand.{AllStandFor, MemberStandsFor, TaskFits};
-ghost use Rattle.pcm_stream.specs.StandsFor.{faults_of, tells_plan};
+ghost use Rattle.pcm_stream.specs.Kept.{KeepsFaults};
 ghost use Rattle.pcm_group.specs.Built.{is_act_call, is_own_call, is_waiting_call, own_frames};
 ghost use Rattle.pcm_group.specs.Bytes.{HasLength, bytes_left};
 ghost use Rattle.pcm_group.specs.Carried.{IsCarried, IsCarriedBy};
@@ -52,8 +52,7 @@ pub(crate) fn own_event<C: Card>(member: &mut Member<C>, call: Call, linked: boo
     ensures wants { result ≡ Memory → may_want_memory call ≡ true }
     ensures sub { member.new.sub ≡ member.old.sub }
     ensures sleepers { member.new.sleepers ≡ member.old.sleepers }
-    ensures tells { tells_plan member.new.stream ≡ tells_plan member.old.stream }
-    ensures faults { faults_of member.new.stream ≡ faults_of member.old.stream }
+    ensures keeps { KeepsFaults member.old.stream member.new.stream }
     ensures awake { result ≢ Asleep }
 {
     let busy = !member.sleepers.is_empty();

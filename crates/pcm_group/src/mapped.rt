@@ -9,7 +9,8 @@ ghost use Rattle.pcm_base.specs.declared.reply.Reply.TheVariants.{Asleep, Memory
 ghost use Rattle.pcm_base.specs.model.Events.{event as event_of};
 ghost use Rattle.pcm_base.specs.model.Stream.{Stream};
 ghost use Rattle.pcm_stream.specs.Mappings.{mappings_in};
-ghost use Rattle.pcm_stream.specs.StandsFor.{IsShapeOf, StandsFor, faults_of, shape_in, tells_plan};
+ghost use Rattle.pcm_stream.specs.Kept.{KeepsFaults};
+ghost use Rattle.pcm_stream.specs.StandsFor.{IsShapeOf, StandsFor, shape_in};
 ghost use Rattle.mmap_pages.specs.Mapped.{load_refusal};
 ghost use Rattle.pcm_group.specs.Bytes.{HasLength};
 ghost use Rattle.pcm_group.specs.Carried.{IsOwnCarried};
@@ -29,8 +30,7 @@ pub(crate) fn map<C: Card>(stream: &mut Substream<C>) -> Reply
     ensures done { (c : ClientId) (linked : Bool) (s : Stream) → StandsFor stream.old s → IsOwnEnd s (event_of call.Map c linked [] s) result 0 0 stream.new }
     ensures told { result ≢ Memory }
     ensures awake { result ≢ Asleep }
-    ensures tells { tells_plan stream.new ≡ tells_plan stream.old }
-    ensures faults { faults_of stream.new ≡ faults_of stream.old }
+    ensures keeps { KeepsFaults stream.old stream.new }
 {
     answer(map_sub(stream))
 }
@@ -40,8 +40,7 @@ pub(crate) fn unmap<C: Card>(stream: &mut Substream<C>) -> Reply
     ensures done { (c : ClientId) (linked : Bool) (s : Stream) → StandsFor stream.old s → IsOwnEnd s (event_of call.Unmap c linked [] s) result 0 0 stream.new }
     ensures told { result ≢ Memory }
     ensures awake { result ≢ Asleep }
-    ensures tells { tells_plan stream.new ≡ tells_plan stream.old }
-    ensures faults { faults_of stream.new ≡ faults_of stream.old }
+    ensures keeps { KeepsFaults stream.old stream.new }
 {
     answer(unmap_sub(stream))
 }
@@ -68,8 +67,7 @@ pub(crate) fn store<C: Card>(stream: &mut Substream<C>, offset: u64, frames: &[u
         → IsOwnEnd s (event_of (call.Store offset) c linked frames.now s) result.reply result.first result.moved stream.new }
     ensures told { result.reply ≢ Memory }
     ensures awake { result.reply ≢ Asleep }
-    ensures tells { tells_plan stream.new ≡ tells_plan stream.old }
-    ensures faults { faults_of stream.new ≡ faults_of stream.old }
+    ensures keeps { KeepsFaults stream.old stream.new }
 {
     moved_all(store_frames(stream, offset, frames))
 }
@@ -148,8 +146,7 @@ pub(crate) fn give<C: Card>(stream: &mut Substream<C>, frames: &[u8]) -> Reply
         → IsOwnEnd s (event_of call.Give c linked frames.now s) result 0 (frames_given result s frames.now) stream.new }
     ensures memory { (s : Stream) → StandsFor stream.old s → result ≡ Memory → StandsFor stream.new s }
     ensures awake { result ≢ Asleep }
-    ensures tells { tells_plan stream.new ≡ tells_plan stream.old }
-    ensures faults { faults_of stream.new ≡ faults_of stream.old }
+    ensures keeps { KeepsFaults stream.old stream.new }
 {
     if let Err(e) = givable(stream, frames) {
         return Reply::Err(e);
@@ -172,8 +169,7 @@ pub(crate) fn lent_event<C: Card>(stream: &mut Substream<C>, call: Call, io: &mu
     ensures wants { result.reply ≡ Memory → may_want_memory call ≡ true }
     ensures idle { result.reply ≡ Memory → (result.first ≡ 0) × (result.moved ≡ 0) }
     ensures awake { result.reply ≢ Asleep }
-    ensures tells { tells_plan stream.new ≡ tells_plan stream.old }
-    ensures faults { faults_of stream.new ≡ faults_of stream.old }
+    ensures keeps { KeepsFaults stream.old stream.new }
 {
     match call {
         Call::Store(offset) => store(stream, offset, io),

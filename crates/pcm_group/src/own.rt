@@ -7,7 +7,8 @@ ghost use Rattle.pcm_base.specs.model.Events.{event as event_of, delay as delay_
 ghost use Rattle.pcm_base.specs.model.Movement.{move as move_of};
 ghost use Rattle.pcm_base.specs.model.Sound.{is_set_up};
 ghost use Rattle.pcm_base.specs.model.Stream.{Stream};
-ghost use Rattle.pcm_stream.specs.StandsFor.{StandsFor, faults_of, tells_plan};
+ghost use Rattle.pcm_stream.specs.Kept.{KeepsFaults};
+ghost use Rattle.pcm_stream.specs.StandsFor.{StandsFor};
 ghost use Rattle.pcm_group.specs.Ended.{IsOwnEnd};
 
 use crate::acts::answer;
@@ -19,8 +20,7 @@ pub(crate) fn open<C: Card>(stream: &mut Substream<C>) -> Reply
     ensures done { (c : ClientId) (linked : Bool) (s : Stream) → StandsFor stream.old s → IsOwnEnd s (event_of call.OpenSub c linked [] s) result 0 0 stream.new }
     ensures told { result ≢ Memory }
     ensures awake { result ≢ Asleep }
-    ensures tells { tells_plan stream.new ≡ tells_plan stream.old }
-    ensures faults { faults_of stream.new ≡ faults_of stream.old }
+    ensures keeps { KeepsFaults stream.old stream.new }
 {
     answer(stream.open_sub())
 }
@@ -30,8 +30,7 @@ pub(crate) fn close<C: Card>(stream: &mut Substream<C>, linked: bool, busy: bool
     ensures done { (c : ClientId) (s : Stream) → StandsFor stream.old s → busy ≡ is_busy s → IsOwnEnd s (event_of call.CloseSub c linked [] s) result 0 0 stream.new }
     ensures told { result ≢ Memory }
     ensures awake { result ≢ Asleep }
-    ensures tells { tells_plan stream.new ≡ tells_plan stream.old }
-    ensures faults { faults_of stream.new ≡ faults_of stream.old }
+    ensures keeps { KeepsFaults stream.old stream.new }
 {
     if linked || stream.mappings() > 0 || busy {
         return Reply::Err(Errno::Ebusy);
@@ -44,8 +43,7 @@ pub(crate) fn hw_params<C: Card>(stream: &mut Substream<C>, config: &Config, bus
     ensures done { (c : ClientId) (linked : Bool) (s : Stream) → StandsFor stream.old s → busy ≡ is_busy s → result ≢ Memory → IsOwnEnd s (event_of (call.HwParams config.now) c linked [] s) result 0 0 stream.new }
     ensures memory { (s : Stream) → StandsFor stream.old s → result ≡ Memory → StandsFor stream.new s }
     ensures awake { result ≢ Asleep }
-    ensures tells { tells_plan stream.new ≡ tells_plan stream.old }
-    ensures faults { faults_of stream.new ≡ faults_of stream.old }
+    ensures keeps { KeepsFaults stream.old stream.new }
 {
     match stream.hw_params(config, busy) {
         Ok(()) => Reply::Ok,
@@ -58,8 +56,7 @@ pub(crate) fn hw_free<C: Card>(stream: &mut Substream<C>, busy: bool) -> Reply
     ensures done { (c : ClientId) (linked : Bool) (s : Stream) → StandsFor stream.old s → busy ≡ is_busy s → IsOwnEnd s (event_of call.HwFree c linked [] s) result 0 0 stream.new }
     ensures told { result ≢ Memory }
     ensures awake { result ≢ Asleep }
-    ensures tells { tells_plan stream.new ≡ tells_plan stream.old }
-    ensures faults { faults_of stream.new ≡ faults_of stream.old }
+    ensures keeps { KeepsFaults stream.old stream.new }
 {
     answer(stream.hw_free(busy))
 }
@@ -68,8 +65,7 @@ pub(crate) fn sw_params<C: Card>(stream: &mut Substream<C>, sw: &SwParams) -> Re
     ensures done { (c : ClientId) (linked : Bool) (s : Stream) → StandsFor stream.old s → IsOwnEnd s (event_of (call.SwParams sw.now) c linked [] s) result 0 0 stream.new }
     ensures told { result ≢ Memory }
     ensures awake { result ≢ Asleep }
-    ensures tells { tells_plan stream.new ≡ tells_plan stream.old }
-    ensures faults { faults_of stream.new ≡ faults_of stream.old }
+    ensures keeps { KeepsFaults stream.old stream.new }
 {
     answer(stream.sw_params(sw))
 }
@@ -78,8 +74,7 @@ pub(crate) fn fail_at<C: Card>(stream: &mut Substream<C>, k: u64) -> Reply
     ensures done { (c : ClientId) (linked : Bool) (s : Stream) → StandsFor stream.old s → IsOwnEnd s (event_of (call.FailAt k) c linked [] s) result 0 0 stream.new }
     ensures told { result ≢ Memory }
     ensures awake { result ≢ Asleep }
-    ensures tells { tells_plan stream.new ≡ tells_plan stream.old }
-    ensures faults { faults_of stream.new ≡ faults_of stream.old }
+    ensures keeps { KeepsFaults stream.old stream.new }
 {
     answer(stream.fail_at(k))
 }
@@ -89,8 +84,7 @@ pub(crate) fn move_by<C: Card>(stream: &mut Substream<C>, n: u64) -> Reply
     ensures done { (c : ClientId) (linked : Bool) (s : Stream) → StandsFor stream.old s → result ≢ Memory → IsOwnEnd s (event_of (call.MoveBy n) c linked [] s) result 0 (length (move_of n s).frames) stream.new }
     ensures memory { (s : Stream) → StandsFor stream.old s → result ≡ Memory → StandsFor stream.new s }
     ensures awake { result ≢ Asleep }
-    ensures tells { tells_plan stream.new ≡ tells_plan stream.old }
-    ensures faults { faults_of stream.new ≡ faults_of stream.old }
+    ensures keeps { KeepsFaults stream.old stream.new }
 {
     match stream.dma(n) {
         Ok(moved) => Reply::Moved(moved),

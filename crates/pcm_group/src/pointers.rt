@@ -10,7 +10,8 @@ ghost use Rattle.pcm_base.specs.model.Group.{stream_of};
 ghost use Rattle.pcm_base.specs.model.Sound.{is_set_up};
 ghost use Rattle.pcm_base.specs.model.Stream.{Stream, Member as ModelMember};
 ghost use Rattle.pcm_stream.specs.Members.{all_fixed, members_of};
-ghost use Rattle.pcm_stream.specs.StandsFor.{StandsFor, faults_of, shape_in, tells_plan};
+ghost use Rattle.pcm_stream.specs.Kept.{KeepsSizes};
+ghost use Rattle.pcm_stream.specs.StandsFor.{StandsFor};
 ghost use Rattle.pcm_group.specs.Ended.{IsAt, IsEnded, IsOwnEnd};
 ghost use Rattle.pcm_group.specs.Faults.{KeepsCards};
 
@@ -26,9 +27,7 @@ fn rewind_now<C: Card>(stream: &mut Substream<C>, n: u64) -> Reply
     ensures done { (s : Stream) → StandsFor stream.old s → is_set_up s.state ≡ true → IsOwnEnd s (rewound n s) result 0 0 stream.new }
     ensures told { result ≢ Memory }
     ensures awake { result ≢ Asleep }
-    ensures shape { shape_in stream.new ≡ shape_in stream.old }
-    ensures tells { tells_plan stream.new ≡ tells_plan stream.old }
-    ensures faults { faults_of stream.new ≡ faults_of stream.old }
+    ensures keeps { KeepsSizes stream.old stream.new }
 {
     match stream.shape() {
         Some(_) => Reply::Frames(stream.rewind(n)),
@@ -41,9 +40,7 @@ fn forward_now<C: Card>(stream: &mut Substream<C>, n: u64) -> Reply
     ensures done { (s : Stream) → StandsFor stream.old s → is_set_up s.state ≡ true → IsOwnEnd s (forwarded n s) result 0 0 stream.new }
     ensures told { result ≢ Memory }
     ensures awake { result ≢ Asleep }
-    ensures shape { shape_in stream.new ≡ shape_in stream.old }
-    ensures tells { tells_plan stream.new ≡ tells_plan stream.old }
-    ensures faults { faults_of stream.new ≡ faults_of stream.old }
+    ensures keeps { KeepsSizes stream.old stream.new }
 {
     match stream.shape() {
         Some(_) => Reply::Frames(stream.forward(n)),
@@ -112,9 +109,7 @@ pub(crate) fn sync_ptr<C: Card>(stream: &mut Substream<C>, p: u64) -> Reply
     ensures done { (c : ClientId) (linked : Bool) (s : Stream) → StandsFor stream.old s → IsOwnEnd s (event_of (call.SyncPtr p) c linked [] s) result 0 0 stream.new }
     ensures told { result ≢ Memory }
     ensures awake { result ≢ Asleep }
-    ensures shape { shape_in stream.new ≡ shape_in stream.old }
-    ensures tells { tells_plan stream.new ≡ tells_plan stream.old }
-    ensures faults { faults_of stream.new ≡ faults_of stream.old }
+    ensures keeps { KeepsSizes stream.old stream.new }
 {
     if let Err(e) = permit(CallKind::SyncPtr, stream.state(), stream.dir()) {
         return Reply::Err(e);

@@ -42,4 +42,4 @@ returns-clause-calls g c =
 pub returns-clause-cards : goal.returns-clause-cards
 returns-clause-cards g c acts =
     let m = c.at_mut.result.now in
-    KeepsCards-set acts (members_of c.args.members.now) c.args.place m (record m { stream = c.lent_event.new.stream }) c.at_mut.ensures.value c.lent_event.ensures.tells c.lent_event.ensures.faults
+    KeepsCards-set acts (members_of c.args.members.now) c.args.place m (record m { stream = c.lent_event.new.stream }) c.at_mut.ensures.value c.lent_event.ensures.keeps.tells c.lent_event.ensures.keeps.count

@@ -67,4 +67,4 @@ returns-else-is_own-clause-calls g c = calls-fixed (members_of c.args.members.no
 
 pub returns-then-is_own-clause-cards : goal.returns-then-is_own-clause-cards
 returns-then-is_own-clause-cards g c =
-    KeepsCards-set c.args.acts.now (members_of c.args.members.now) c.args.place c.at_mut.result.now c.own_event.new.member c.at_mut.ensures.value c.own_event.ensures.tells c.own_event.ensures.faults
+    KeepsCards-set c.args.acts.now (members_of c.args.members.now) c.args.place c.at_mut.result.now c.own_event.new.member c.at_mut.ensures.value c.own_event.ensures.keeps.tells c.own_event.ensures.keeps.count

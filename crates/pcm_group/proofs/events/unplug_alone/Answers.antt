@@ -1,5 +1,4 @@
 use Rattle.std.proofs.Common.{refl, ap}
-use Rattle.std.specs.Option.{is_some}
 use Rattle.pcm_base.specs.declared.reply.Reply.TheVariants as reply
 use Rattle.pcm_base.specs.model.Events.{unplug_alone, unplugged}
 use Rattle.pcm_base.specs.model.Group.{stream_of}
@@ -20,9 +19,9 @@ returns-clause-done g c k tells xs acts h stands =
 pub returns-clause-fixed : goal.returns-clause-fixed
 returns-clause-fixed g c =
     map-at fixed_of (members_of c.args.members.now) c.args.place c.at_mut.result.now (record c.at_mut.result.now { stream = c.unplug.new.self }) c.at_mut.ensures.value
-    (fixed-same c.at_mut.result.now c.unplug.new.self c.unplug.ensures.shape (ap (λ f. is_some f.plan) c.unplug.ensures.card))
+    (fixed-same c.at_mut.result.now c.unplug.new.self c.unplug.ensures.keeps.sizes.shape c.unplug.ensures.keeps.sizes.faults.tells)
 
 pub returns-clause-cards : goal.returns-clause-cards
 returns-clause-cards g c acts =
     let m = c.at_mut.result.now in
-    KeepsCards-set acts (members_of c.args.members.now) c.args.place m (record m { stream = c.unplug.new.self }) c.at_mut.ensures.value c.unplug.ensures.tells c.unplug.ensures.faults
+    KeepsCards-set acts (members_of c.args.members.now) c.args.place m (record m { stream = c.unplug.new.self }) c.at_mut.ensures.value c.unplug.ensures.keeps.sizes.faults.tells c.unplug.ensures.keeps.sizes.faults.count

@@ -43,7 +43,7 @@ pub returns-in-Nothing-clause-fixed : goal.returns-in-Nothing-clause-fixed
 returns-in-Nothing-clause-fixed g c =
     let ms = members_of c.refresh.new.members in
     let m = c.at_mut.result.now in
-    map-at fixed_of ms c.args.place m (record m { stream = c.forward_now.new.stream }) c.at_mut.ensures.value (fixed-same m c.forward_now.new.stream c.forward_now.ensures.shape c.forward_now.ensures.tells) ∙ c.refresh.ensures.fixed
+    map-at fixed_of ms c.args.place m (record m { stream = c.forward_now.new.stream }) c.at_mut.ensures.value (fixed-same m c.forward_now.new.stream c.forward_now.ensures.keeps.shape c.forward_now.ensures.keeps.faults.tells) ∙ c.refresh.ensures.fixed
 
 pub returns-in-DrainDone : goal.returns-in-DrainDone
 returns-in-DrainDone g c = record {
@@ -68,4 +68,4 @@ returns-in-Nothing-clause-cards g c =
     let m = c.at_mut.result.now in
     let n = record m { stream = c.forward_now.new.stream } in
     KeepsCards-then c.args.acts.now c.refresh.new.acts c.refresh.new.acts (members_of c.args.members.now) ms (set ms c.args.place n) c.refresh.ensures.cards
-    (KeepsCards-set c.refresh.new.acts ms c.args.place m n c.at_mut.ensures.value c.forward_now.ensures.tells c.forward_now.ensures.faults)
+    (KeepsCards-set c.refresh.new.acts ms c.args.place m n c.at_mut.ensures.value c.forward_now.ensures.keeps.faults.tells c.forward_now.ensures.keeps.faults.count)

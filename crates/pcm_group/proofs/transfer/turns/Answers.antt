@@ -31,8 +31,8 @@ pub turns-preserved : goal.turns-preserved
 turns-preserved g c =
     let y = c.args.xfer.now in
     record {
-      fixed = (λ i. record { sub = c.transfer.ensures.sub i; sleepers = c.transfer.ensures.sleepers i; shape = c.transfer.ensures.shape i; tells = c.transfer.ensures.tells i }) ∙ c.turns.invariant.fixed;
-      faults = c.transfer.ensures.faults ∙ c.turns.invariant.faults;
+      fixed = (λ i. record { sub = c.transfer.ensures.sub i; sleepers = c.transfer.ensures.sleepers i; shape = c.transfer.ensures.keeps.shape i; tells = c.transfer.ensures.keeps.faults.tells i }) ∙ c.turns.invariant.fixed;
+      faults = c.transfer.ensures.keeps.faults.count ∙ c.turns.invariant.faults;
       size = c.transfer.auto.io ∙ c.turns.invariant.size;
       sum = c.transfer.ensures.sum ∙ c.turns.invariant.sum;
       written = λ s h e.
@@ -91,9 +91,9 @@ returns-in_default g c =
       written = λ s h e.
           let u = c.turns.invariant.goes_on client y [] s h (itself y) in
           c.transfer.ensures.bytes u.left u.stands ∙ bytes_stay c.turns.xfer c.turns.io u.left (c.turns.invariant.writing s h ∙ e) ∙ c.turns.invariant.written s h e;
-      faults = c.transfer.ensures.faults ∙ c.turns.invariant.faults;
+      faults = c.transfer.ensures.keeps.faults.count ∙ c.turns.invariant.faults;
       sum = c.transfer.ensures.sum ∙ c.turns.invariant.sum;
-      fixed = (λ i. record { sub = c.transfer.ensures.sub i; sleepers = c.transfer.ensures.sleepers i; shape = c.transfer.ensures.shape i; tells = c.transfer.ensures.tells i }) ∙ c.turns.invariant.fixed;
+      fixed = (λ i. record { sub = c.transfer.ensures.sub i; sleepers = c.transfer.ensures.sleepers i; shape = c.transfer.ensures.keeps.shape i; tells = c.transfer.ensures.keeps.faults.tells i }) ∙ c.turns.invariant.fixed;
     }
 
 pub returns-clause-turned : goal.returns-clause-turned
