@@ -226,7 +226,7 @@ begun-ready n gs calls w e o k io h =
         distinct = fit.distinct;
         free = λ _. waits-nowhere n gs calls w e o k h k;
         own = own-begun e (caller_of o) io (stream_at k w.groups) h.begins;
-        puts = λ z. subst (λ (b : ℕ). PutsAreWide b (stream_at k w.groups).puts) (sym (fit.runs z).1.frame_bytes) (fit.runs z).1.puts;
+        puts = λ z. subst (λ (b : ℕ). PutsAreWide b (stream_at k w.groups).puts) (sym (fit.runs z).1.setup.frame_bytes) (fit.runs z).1.frames.puts;
       };
       alone = λ j _. waits-nowhere n gs calls w e o k h j;
     }

@@ -114,7 +114,7 @@ module _ {C : Type 0} {g : Ghosts C} (n : ℕ) (gs : List (Group C g)) (calls : 
   going-runs = going-fit.runs going-set
 
   pub going-frame : 0 < (stream_at p.sub w.groups).setup.frame_bytes
-  going-frame = let a : 1 ≤ going-runs.0.shape.frame_bytes = going-runs.0.sound.frame in let e : (stream_at p.sub w.groups).setup.frame_bytes ≡ going-runs.0.shape.frame_bytes = going-runs.1.frame_bytes in omega (arith, a, e)
+  going-frame = let a : 1 ≤ going-runs.0.shape.frame_bytes = going-runs.0.sound.frame in let e : (stream_at p.sub w.groups).setup.frame_bytes ≡ going-runs.0.shape.frame_bytes = going-runs.1.setup.frame_bytes in omega (arith, a, e)
 
   pub going-held : holds p.sub (group_of p.sub w.groups) ≡ true
   going-held = elim (undeclared_or_held p.sub w.groups) [
@@ -146,7 +146,7 @@ module _ {C : Type 0} {g : Ghosts C} (n : ℕ) (gs : List (Group C g)) (calls : 
       distinct = going-fit.distinct;
       free = λ z. absurd (let no : ⊥ = cc in no);
       own = own-task (task_of p w.groups) p.bytes (stream_at p.sub w.groups) p refl going-waits going-frame going-set;
-      puts = λ z. subst (λ (b : ℕ). PutsAreWide b (stream_at p.sub w.groups).puts) (sym (going-fit.runs z).1.frame_bytes) (going-fit.runs z).1.puts;
+      puts = λ z. subst (λ (b : ℕ). PutsAreWide b (stream_at p.sub w.groups).puts) (sym (going-fit.runs z).1.setup.frame_bytes) (going-fit.runs z).1.frames.puts;
     };
     alone = going-nowhere;
   }

@@ -31,7 +31,7 @@ pub record IsSized (b c : ℕ) : Type 0 where
 pub sized-by : (r : Runtime) (s : Stream) → RunsFor r s → IsSized s.setup.frame_bytes (channels_of s.setup.config)
 sized-by r s h =
     let whole : r.shape.channels * (r.shape.frame_bytes / r.shape.channels) ≡ r.shape.frame_bytes = omega (arith, div-add-mod' r.shape.frame_bytes r.shape.channels, r.sound.samples) in
-    subst (λ (b : ℕ). IsSized b (channels_of s.setup.config)) (sym h.frame_bytes) (subst (λ (c : ℕ). IsSized r.shape.frame_bytes c) (channels-of r s h)
+    subst (λ (b : ℕ). IsSized b (channels_of s.setup.config)) (sym h.setup.frame_bytes) (subst (λ (c : ℕ). IsSized r.shape.frame_bytes c) (channels-of r s h)
     (record { frame = omega (arith, r.sound.frame); channel = omega (arith, r.sound.channel); samples = whole }))
 
 -- so many frames of so many bytes
@@ -110,7 +110,7 @@ read-kept l s r io now pf fs first h wide begin at room is = by (nat_eq (length 
         let some : length fs ≢ 0 = (λ z. let no : ⊥ = grind (arith, nat_tests, e, z) in no) in
         let all : List Frame = frames_by l s io in
         let b : ℕ = s.setup.frame_bytes in
-        let old : AreWide b all = subst (λ (n : ℕ). AreWide n all) (sym h.frame_bytes) (AreWide-by l r s io h) in
+        let old : AreWide b all = subst (λ (n : ℕ). AreWide n all) (sym h.setup.frame_bytes) (AreWide-by l r s io h) in
         let count : length all ≡ length io / b = length-by l s io in
         let front : length (take (length pf) all) ≡ length pf = omega (arith, length-take (length pf) all, count, room) in
         ap (λ (x : List ℕ). take (length (pf ++ fs)) (frames_by l s x)) q

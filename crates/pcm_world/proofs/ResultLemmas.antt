@@ -95,7 +95,7 @@ first-of h n all now size le = record {
 pub read-first : (l : Layout) (s : Stream) (r : Runtime) (h : Shape) (now : List ℕ) (all : List Frame) (n most : ℕ) → RunsFor r s → s.setup.frame_bytes ≡ h.frame_bytes → channels_of s.setup.config ≡ h.channels
     → length now ≡ most * s.setup.frame_bytes → n ≤ most → n ≡ length all → take (length all) (frames_by l s now) ≡ all → first_by l h n now ≡ bytes_by l s all
 read-first l s r h now all n most k e f size le count is =
-    let some : 0 < s.setup.frame_bytes = (let a : 1 ≤ r.shape.frame_bytes = r.sound.frame in let q : s.setup.frame_bytes ≡ r.shape.frame_bytes = k.frame_bytes in omega (arith, a, q)) in
+    let some : 0 < s.setup.frame_bytes = (let a : 1 ≤ r.shape.frame_bytes = r.sound.frame in let q : s.setup.frame_bytes ≡ r.shape.frame_bytes = k.setup.frame_bytes in omega (arith, a, q)) in
     let whole : length now % s.setup.frame_bytes ≡ 0 = ap (λ (m : ℕ). m % s.setup.frame_bytes) size ∙ mul-mod_left most s.setup.frame_bytes in
     let frames : length now / s.setup.frame_bytes ≡ most = ap (λ (m : ℕ). m / s.setup.frame_bytes) size ∙ mul-div_cancel most some in
     read-told l s r h now all n k e f whole (omega (arith, frames, le)) count is

@@ -26,10 +26,10 @@ shaped-fit s h = record { is = refl; frames = by s.setup.config refl }
     by (Some c) e =
         let some : is_bare s ≡ false = ap (λ (o : Option Config). elim o as (λ _. Bool) [ None ↦ true | Some c ↦ false ]) e in
         let r = h.runs some in
-        let both : Some r.0.config ≡ Some c = sym r.1.config ∙ e in
+        let both : Some r.0.config ≡ Some c = sym r.1.setup.config ∙ e in
         let same : r.0.config ≡ c = cc in
-        let is : r.0.shape ≡ shape_of c s.long_max = r.1.shape ∙ ap (λ (x : Config). shape_of x s.long_max) same in
-        subst (IsShapeOf s) is (record { frame_bytes = r.1.frame_bytes; buffer = r.1.buffer; boundary = r.1.boundary; sound = r.0.sound })
+        let is : r.0.shape ≡ shape_of c s.long_max = r.1.setup.shape ∙ ap (λ (x : Config). shape_of x s.long_max) same in
+        subst (IsShapeOf s) is (record { frame_bytes = r.1.setup.frame_bytes; buffer = r.1.setup.buffer; boundary = r.1.setup.boundary; sound = r.0.sound })
 
 -- for a call that reads nothing, the sizes change nothing of what it is lent
 lent-for : (e : Call) (shape : Option Shape) (io : List ℕ) → lent_bytes e (shape_for (layout_begun e) shape) io ≡ lent_bytes e shape io

@@ -309,7 +309,7 @@ bytes-kept e p s a lent now come at_all h told set is = by (task_begun e p.clien
             let reading : read_layout (task_begun e p.client p.bytes s) ≢ None = (λ z. let two : Some y.layout ≡ None = sym (ap read_layout o ∙ ap (λ (b : Bool). cond b None (Some y.layout)) w) ∙ z in let no : ⊥ = cc in no) in
             let r : (r : Runtime) × RunsFor r s = h.runs (set reading) in
             let moved : y.moved ≡ length p.frames = moved-before e p s y v o come at_all in
-            let some : 0 < s.setup.frame_bytes = (let f : 1 ≤ r.0.shape.frame_bytes = r.0.sound.frame in let q : s.setup.frame_bytes ≡ r.0.shape.frame_bytes = r.1.frame_bytes in omega (arith, f, q)) in
+            let some : 0 < s.setup.frame_bytes = (let f : 1 ≤ r.0.shape.frame_bytes = r.0.sound.frame in let q : s.setup.frame_bytes ≡ r.0.shape.frame_bytes = r.1.setup.frame_bytes in omega (arith, f, q)) in
             let count : length lent / s.setup.frame_bytes ≡ y.moved + y.rest = ap (λ (n : ℕ). n / s.setup.frame_bytes) (h.size ∙ reads-frames e p s y v o w come at_all) ∙ mul-div_cancel (y.moved + y.rest) some in
             let front : take (length p.frames) (frames_by y.layout s lent) ≡ p.frames = begun_front (subst (λ (b : Bool). KeepsBytes (cond b None (Some y.layout)) s lent (continued e s [] p)) w k) in
             subst (λ (b : Bool). KeepsBytes (cond b None (Some y.layout)) s now (continued e s a.frames p)) (sym w)

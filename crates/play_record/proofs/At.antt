@@ -145,7 +145,7 @@ module _ {C : Type 0} {g : Ghosts C} where
 module _ {C : Type 0} {g : Ghosts C} where
   frame_by : (m : Member C g) (s t : Stream) (h : Config) (o : Option Runtime) → m.stream.runtime ≡ o → StandsFor m.stream s → StandsFor m.stream t → s.setup.config ≡ Some h → t.setup.frame_bytes ≡ s.setup.frame_bytes
   frame_by m s t h None e a b is = absurd (let unset : s.setup.config ≡ None = (a.shows.unset e).unset in cc)
-  frame_by m s t h (Some r) e a b is = (b.shows.runs_for r e).frame_bytes ∙ sym (a.shows.runs_for r e).frame_bytes
+  frame_by m s t h (Some r) e a b is = (b.shows.runs_for r e).setup.frame_bytes ∙ sym (a.shows.runs_for r e).setup.frame_bytes
 
   -- the frames of a device that is set up have one width
   pub frame-at : (ms : List (Member C g)) (k : SubId) (s t : Stream) (h : Config) → IsAt k s ms → IsAt k t ms → s.setup.config ≡ Some h → t.setup.frame_bytes ≡ s.setup.frame_bytes

@@ -87,7 +87,7 @@ wide-puts sub s h z st = by sub.runtime refl
   where
     by : (o : Option Runtime) → sub.runtime ≡ o → PutsAreWide s.setup.frame_bytes s.puts
     by None is = absurd (no-channels s h z (st.shows.unset is).unset)
-    by (Some r) is = (let k = st.shows.runs_for r is in subst (λ (w : ℕ). PutsAreWide w s.puts) (sym k.frame_bytes) k.puts)
+    by (Some r) is = (let k = st.shows.runs_for r is in subst (λ (w : ℕ). PutsAreWide w s.puts) (sym k.setup.frame_bytes) k.frames.puts)
 
 -- the card is ahead of what is reported
 reported : (s : Stream) (h : Shape) → IsSized s h → Sound s → s.at.hw ≤ s.at.card
