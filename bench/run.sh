@@ -14,7 +14,7 @@ programs=${*:-$(sed -n 's/^\([a-z_]*\):.*/\1/p' "$here/programs.txt")}
 cat "$top/crates.txt" "$here/programs.txt" >"$work/all.txt"
 below() {
     awk -v start="$*" '
-        /^[a-z_]+:/ { name = $1; sub(/:.*/, "", name); sub(/^[^:]*:/, ""); uses[name] = $0 }
+        /^[a-z_]+[ :]/ { name = $1; sub(/:.*/, "", name); sub(/^[^:]*:/, ""); uses[name] = $0 }
         END {
             count = split(start, queue, " ")
             for (i = 1; i <= count; i++) {
@@ -77,7 +77,7 @@ git init -q "$work"
 : >"$work/crates.txt"
 for name in $(below $programs); do
     place "$name"
-    grep "^$name:" "$work/all.txt" >>"$work/crates.txt"
+    grep "^$name[ :]" "$work/all.txt" >>"$work/crates.txt"
 done
 for name in $programs; do
     cd "$work/crates/$name"
