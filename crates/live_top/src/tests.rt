@@ -115,27 +115,37 @@ end s1 RUNNING hw 2 appl 6 moved 2
     Ok(())
 }
 
-// It holds the first call of client 0 until a call of client 1 was answered, but not for ever.
+// It holds the first call of client 0 until a call of client 1 was answered, and the second of client 1 until one of client 0
+// was, but neither for ever.
 #[derive(Drop)]
 struct Held {
-    answered: AtomicU64,
+    first: AtomicU64,
+    second: AtomicU64,
     gave_up: AtomicU64,
 }
 
-impl Gate for Held {
-    fn pass(&self, client: ClientId, nth: u64) {
-        if client.0 == 1 && nth == 2 {
-            self.answered.store(1, Ordering::SeqCst);
-        }
-        if client.0 != 0 || nth != 1 {
-            return;
-        }
+impl Held {
+    fn wait_for(&self, answered: &AtomicU64) {
         for _ in 0..1_000_000_000u64 {
-            if self.answered.load(Ordering::SeqCst) == 1 {
+            if answered.load(Ordering::SeqCst) == 1 {
                 return;
             }
         }
         self.gave_up.store(1, Ordering::SeqCst);
+    }
+}
+
+impl Gate for Held {
+    fn pass(&self, client: ClientId, nth: u64) {
+        match (client.0, nth) {
+            (0, 1) => self.wait_for(&self.second),
+            (0, 2) => self.first.store(1, Ordering::SeqCst),
+            (1, 2) => {
+                self.second.store(1, Ordering::SeqCst);
+                self.wait_for(&self.first);
+            }
+            _ => {}
+        }
     }
 }
 
@@ -145,19 +155,65 @@ fn two_clients_work_at_the_same_time(rt: HostRuntime) -> Result<(), Fail> {
 card s1 basic p
 threads
 open c0 s0
+status c0 s0
 open c1 s1
 status c1 s1
 join
 ";
     let gate = Held {
-        answered: AtomicU64::new(0),
+        first: AtomicU64::new(0),
+        second: AtomicU64::new(0),
         gave_up: AtomicU64::new(0),
     };
     let mut shelf = MemShelf::new(rt.alloc(), Vec::new(rt.alloc()));
     let (status, _out) = run(&rt, rt.alloc(), text, &mut shelf, &gate)?;
     assert_eq!(rt; status.number(), 0);
-    assert_eq!(rt; gate.answered.load(Ordering::SeqCst), 1);
+    assert_eq!(rt; gate.first.load(Ordering::SeqCst), 1);
+    assert_eq!(rt; gate.second.load(Ordering::SeqCst), 1);
     assert_eq!(rt; gate.gave_up.load(Ordering::SeqCst), 0);
+    Ok(())
+}
+
+// Each client writes into a full buffer that only the other one starts.
+#[test]
+fn each_of_two_clients_waits_for_the_other(rt: HostRuntime) -> Result<(), Fail> {
+    let text = b"card s0 basic p
+card s1 basic p
+card s2 basic p
+open c0 s0
+hw c0 s0 RW_INTERLEAVED U8 1 8000 2 2
+sw c0 s0 1 5 1048576 0 0
+prepare c0 s0
+writei c0 s0 n 01020304
+open c1 s1
+hw c1 s1 RW_INTERLEAVED U8 1 8000 2 2
+sw c1 s1 1 5 1048576 0 0
+prepare c1 s1
+writei c1 s1 n 01020304
+open c1 s2
+hw c1 s2 RW_INTERLEAVED U8 1 8000 2 2
+sw c1 s2 1 5 1048576 0 0
+prepare c1 s2
+writei c1 s2 n 01020304
+link c0 s0 s1
+threads
+writei c0 s0 b 05
+start c0 s2
+start c1 s1
+writei c1 s2 b 06
+beat s0 1 1
+beat s2 1 1
+join
+";
+    let end = b"
+end s0 RUNNING hw 1 appl 5 moved 1
+end s1 RUNNING hw 0 appl 4 moved 0
+end s2 RUNNING hw 1 appl 5 moved 1
+";
+    let mut shelf = MemShelf::new(rt.alloc(), Vec::new(rt.alloc()));
+    let (status, out) = run(&rt, rt.alloc(), text, &mut shelf, &FreeGate)?;
+    assert_eq!(rt; status.number(), 0);
+    assert!(rt; out.bytes().ends_with(end.as_slice()));
     Ok(())
 }
 
