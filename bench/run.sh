@@ -53,19 +53,22 @@ time_cp() {
     done
 }
 
-# The least time of each row.
+# The least time of each row. A row that names another shows how many millions of its calls are made a second, and how many times
+# as many these are as that one's.
 print_table() {
     awk -F '\t' '
+        function times(first, time) { return sprintf("%.2f times", best[first] / calls[first] / time) }
         /^#/ { if (!($0 in notes)) { notes[$0] = 1; note[++noted] = $0 } next }
         !($1 in best) { row[++rows] = $1; best[$1] = $2 }
         $2 < best[$1] { best[$1] = $2 }
-        { calls[$1] = $3; bytes[$1] = $4 }
+        { calls[$1] = $3; bytes[$1] = $4; beside[$1] = $5 }
         END {
             for (i = 1; i <= rows; i++) {
                 name = row[i]
                 time = best[name] / calls[name]
                 shown = time < 1000000 ? sprintf("%.1f ns", time) : sprintf("%.2f ms", time / 1000000)
                 speed = bytes[name] ? sprintf("%.0f MB/s", bytes[name] * 1000 / time) : ""
+                if (beside[name]) speed = sprintf("%.2f M/s", 1000 / time) " " times(beside[name], time)
                 printf "%-52s %14s %14s\n", name, shown, speed
             }
             for (i = 1; i <= noted; i++) print note[i]
